@@ -1,0 +1,3 @@
+pub mod Joins
+pub mod Masks
+pub mod Texts

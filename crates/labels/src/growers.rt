@@ -1,0 +1,72 @@
+ghost use mathlib.Core.Path.{_≡_};
+ghost use Prim.Native.Nat.{_<_};
+ghost use Rattle.labels.specs.Growers.{grower-sets, grower-text, hex, HexDigit};
+use crate::Label;
+use crate::Reading;
+use std::fmt;
+
+mod mask;
+
+pub use mask::Growers;
+
+pub impl Label for Growers as GrowersLabel {
+    ghost kind = { grower-sets };
+
+    ghost text = { grower-text };
+
+    fn flows_to(self, other: Growers) -> bool {
+        self.mask | other.mask == other.mask
+    }
+
+    fn bottom() -> Growers {
+        Growers { mask: 0 }
+    }
+
+    fn join(self, other: Growers) -> Growers {
+        Growers {
+            mask: self.mask | other.mask,
+        }
+    }
+
+    fn read(bytes: &[u8]) -> Option<Reading<Growers>> {
+        let [a, b, c, d, ..] = bytes else {
+            return None;
+        };
+        let high = hex_value(*a)? * 16 + hex_value(*b)?;
+        let low = hex_value(*c)? * 16 + hex_value(*d)?;
+        Some(Reading {
+            label: Growers {
+                mask: high * 256 + low,
+            },
+            length: 4,
+        })
+    }
+
+    fn write<W: fmt::Write>(self, f: &mut fmt::Formatter<W>) -> fmt::Result {
+        let a = hex_digit(self.mask / 4096);
+        let b = hex_digit(self.mask / 256 % 16);
+        let c = hex_digit(self.mask / 16 % 16);
+        let d = hex_digit(self.mask % 16);
+        write!(f, "{a}{b}{c}{d}")
+    }
+}
+
+// The lower-case hexadecimal digit of a number below 16.
+fn hex_digit(n: u16) -> char
+    requires { ⌜ n < 16 ⌝ }
+    ensures { λ r. ⌜ r ≡ hex n ⌝ }
+{
+    let digit = if n < 10 { 48 + n } else { 87 + n };
+    char::from(digit as u8)
+}
+
+// The number of a lower-case hexadecimal digit.
+fn hex_value(byte: u8) -> Option<u16>
+    ensures { λ r. ⌜ HexDigit byte r ⌝ }
+{
+    match byte {
+        b'0'..=b'9' => Some(u16::from(byte - b'0')),
+        b'a'..=b'f' => Some(u16::from(byte - b'a' + 10)),
+        _ => None,
+    }
+}

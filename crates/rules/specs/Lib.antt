@@ -1,0 +1,3 @@
+pub mod Tables
+pub mod Rows
+pub mod Policies
