@@ -1,0 +1,4 @@
+pub mod Operations
+pub mod Words
+pub mod Questions
+pub mod Answers
