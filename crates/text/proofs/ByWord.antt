@@ -18,7 +18,7 @@ use Rattle.text.specs.declared.questions.Fault.{Fault}
 
 module _ {L : Type 0} (text : L → List ℕ) (word : List ℕ) where
   pub whole-word : (a : L) (n : ℕ) → Begins text word a → n ≡ length (text a) → n ≡ length word → LabelNamed text word (Some a)
-  whole-word a n (rest , e) size all = e ∙ ap (λ l. text a ++ l) (none rest (omega (arith, ap length e ∙ length-append (text a) rest))) ∙ append-nil (text a)
+  whole-word a n (rest, e) size all = e ∙ ap (λ l. text a ++ l) (none rest (omega (arith, ap length e ∙ length-append (text a) rest))) ∙ append-nil (text a)
     where
       none : (l : List ℕ) → length l ≡ 0 → l ≡ []
       none [] e = refl
@@ -28,7 +28,7 @@ module _ {L : Type 0} (text : L → List ℕ) (word : List ℕ) where
   no-word none a e = none a ([], e ∙ sym (append-nil (text a)))
 
   pub part-word : Apart text → (a : L) (n : ℕ) → Begins text word a → n ≡ length (text a) → (n ≡ length word → ⊥) → LabelNamed text word None
-  part-word apart a n (rest , e) size part b is =
+  part-word apart a n (rest, e) size part b is =
       let same : a ≡ b = apart a b rest [] (sym e ∙ is ∙ sym (append-nil (text b))) in
       part (size ∙ ap (λ x. length (text x)) same ∙ ap length (sym is))
 
@@ -36,12 +36,12 @@ module _ {L : Type 0} (text : L → List ℕ) (word : List ℕ) where
 
 module _ {L : Type 0} (text : L → List ℕ) (bottom : L) where
   pub given-more : (ws after : List (List ℕ)) (a : L) (more : List L) → Taken text bottom ws a after → Given text bottom after more → Given text bottom ws (a ∷ more)
-  given-more [] after a more (is , none) given = (is, subst (λ l. Given text bottom l more) none given)
-  given-more (w ∷ ws) after a more (is , same) given = (is, subst (λ l. Given text bottom l more) same given)
+  given-more [] after a more (is, none) given = (is, subst (λ l. Given text bottom l more) none given)
+  given-more (w ∷ ws) after a more (is, same) given = (is, subst (λ l. Given text bottom l more) same given)
 
   pub wrong-more : (ws after : List (List ℕ)) (a : L) (n : ℕ) (f : Fault) → Taken text bottom ws a after → WrongLabel text after n f → WrongLabel text ws (suc n) f
-  wrong-more [] after a n f (is , none) wrong = absurd (subst (λ l. WrongLabel text l n f) none wrong)
-  wrong-more (w ∷ ws) after a n f (is , same) wrong = inr ((a, is), subst (λ l. WrongLabel text l n f) same wrong)
+  wrong-more [] after a n f (is, none) wrong = absurd (subst (λ l. WrongLabel text l n f) none wrong)
+  wrong-more (w ∷ ws) after a n f (is, same) wrong = inr ((a, is), subst (λ l. WrongLabel text l n f) same wrong)
 
   pub wrong-here : (ws : List (List ℕ)) (n : ℕ) (f : Fault) → FirstWrong text bottom ws f → WrongLabel text ws (suc n) f
   wrong-here [] n f wrong = wrong

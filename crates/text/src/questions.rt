@@ -2,8 +2,8 @@ ghost use Rattle.std.specs.declared.option.Option.the-variants.{Some};
 ghost use Rattle.std.specs.Written.{Prints};
 ghost use Rattle.text.specs.Answers.{Answers, Told, request-text, verdict-text, answer-text};
 ghost use Rattle.text.specs.Questions.{LabelNamed, NextLabel, Reads};
-use crate::name_of;
 use crate::before_comment;
+use crate::name_of;
 use crate::next_word;
 use crate::operation_named;
 use labels::Label;
@@ -11,10 +11,10 @@ use labels::Shown;
 use labels::ShownDisplay;
 use rules::Policy;
 use rules::Request;
-use rules::Verdict;
-use std::fmt;
 use rules::RequestClone;
+use rules::Verdict;
 use rules::VerdictClone;
+use std::fmt;
 
 // What is wrong with a question: the word that is no operation's name, or no label's text, or one too many.
 #[derive(Clone, Copy)]
@@ -100,15 +100,28 @@ pub impl<L: Label> fmt::Display for Answer<L> as AnswerDisplay {
     }
 }
 
-fn write_request<L: Label, W: fmt::Write>(request: Request<L>, f: &mut fmt::Formatter<W>) -> fmt::Result
+fn write_request<L: Label, W: fmt::Write>(
+    request: Request<L>,
+    f: &mut fmt::Formatter<W>,
+) -> fmt::Result
     ensures { λ r. ⌜ Prints (W·Write .took) (now (f .entry)) r (request-text (L·Label .text) request) (now (f .exit)) ⌝ }
 {
     let Request { op, pc, a, b, c } = request;
     let name = name_of(op);
-    write!(f, "{name} {} {} {} {}", Shown(pc), Shown(a), Shown(b), Shown(c))
+    write!(
+        f,
+        "{name} {} {} {} {}",
+        Shown(pc),
+        Shown(a),
+        Shown(b),
+        Shown(c)
+    )
 }
 
-fn write_verdict<L: Label, W: fmt::Write>(verdict: Option<Verdict<L>>, f: &mut fmt::Formatter<W>) -> fmt::Result
+fn write_verdict<L: Label, W: fmt::Write>(
+    verdict: Option<Verdict<L>>,
+    f: &mut fmt::Formatter<W>,
+) -> fmt::Result
     ensures { λ r. ⌜ Prints (W·Write .took) (now (f .entry)) r (verdict-text (L·Label .text) verdict) (now (f .exit)) ⌝ }
 {
     match verdict {

@@ -13,10 +13,10 @@ returns-in-Break-c g c =
     let text = g .L·Label .text in
     let bottom = g .L·Label .kind .bottom in
     let wrong =
-        wrong-more text bottom _ _ _ 3 _ (c .in-Continue-pc .ensures tt)
-        (wrong-more text bottom _ _ _ 2 _ (c .in-Continue-a .ensures tt)
-        (wrong-more text bottom _ _ _ 1 _ (c .in-Continue-b .ensures tt)
-        (wrong-here text bottom _ 0 _ (c .in-Break-c .ensures tt)))) in
+    wrong-more text bottom _ _ _ 3 _ (c .in-Continue-pc .ensures tt)
+    (wrong-more text bottom _ _ _ 2 _ (c .in-Continue-a .ensures tt)
+    (wrong-more text bottom _ _ _ 1 _ (c .in-Continue-b .ensures tt)
+    (wrong-here text bottom _ 0 _ (c .in-Break-c .ensures tt)))) in
     rw (p .1, p .2) (rw (c .in-Some .ensures tt) (inr ((c .in-Some-operation-named .op, c .in-Some-operation-named .ensures tt), wrong)))
 
 pub returns-in-Some-next-word : need.returns-in-Some-next-word
@@ -24,11 +24,11 @@ returns-in-Some-next-word g c =
     let text = g .L·Label .text in
     let bottom = g .L·Label .kind .bottom in
     let wrong =
-        wrong-more text bottom _ _ _ 3 _ (c .in-Continue-pc .ensures tt)
-        (wrong-more text bottom _ _ _ 2 _ (c .in-Continue-a .ensures tt)
-        (wrong-more text bottom _ _ _ 1 _ (c .in-Continue-b .ensures tt)
-        (wrong-more text bottom _ _ _ 0 _ (c .in-Continue-c .ensures tt)
-        (rw (c .in-Some-next-word .ensures tt) refl)))) in
+    wrong-more text bottom _ _ _ 3 _ (c .in-Continue-pc .ensures tt)
+    (wrong-more text bottom _ _ _ 2 _ (c .in-Continue-a .ensures tt)
+    (wrong-more text bottom _ _ _ 1 _ (c .in-Continue-b .ensures tt)
+    (wrong-more text bottom _ _ _ 0 _ (c .in-Continue-c .ensures tt)
+    (rw (c .in-Some-next-word .ensures tt) refl)))) in
     rw (c .in-Some .ensures tt) (inr ((c .in-Some-operation-named .op, c .in-Some-operation-named .ensures tt), wrong))
 
 pub returns : need.returns
@@ -37,8 +37,8 @@ returns g c =
     let bottom = g .L·Label .kind .bottom in
     let last = subst (λ (l : List (List ℕ)). Given text bottom l []) (sym (c .in-rest-next-word .ensures tt)) tt in
     let given =
-        given-more text bottom _ _ _ _ (c .in-Continue-pc .ensures tt)
-        (given-more text bottom _ _ _ _ (c .in-Continue-a .ensures tt)
-        (given-more text bottom _ _ _ _ (c .in-Continue-b .ensures tt)
-        (given-more text bottom _ _ _ _ (c .in-Continue-c .ensures tt) last))) in
+    given-more text bottom _ _ _ _ (c .in-Continue-pc .ensures tt)
+    (given-more text bottom _ _ _ _ (c .in-Continue-a .ensures tt)
+    (given-more text bottom _ _ _ _ (c .in-Continue-b .ensures tt)
+    (given-more text bottom _ _ _ _ (c .in-Continue-c .ensures tt) last))) in
     rw (c .in-Some .ensures tt) (c .in-Some-operation-named .ensures tt, given)
