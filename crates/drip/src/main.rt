@@ -1,5 +1,6 @@
 // drip: the installer's program.
 mod command;
+mod complaint;
 mod failure;
 mod questions;
 

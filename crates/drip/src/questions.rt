@@ -2,10 +2,12 @@
 use crate::Failure;
 use crate::FailureFromIo;
 use crate::command::Kind;
-use crate::command::KindDisplay;
 use crate::command::KindName;
 use crate::command::PolicyName;
 use crate::command::Rules;
+use crate::complaint::Complaint;
+use crate::complaint::ComplaintDisplay;
+use crate::complaint::Problem;
 use labels::Growers;
 use labels::GrowersLabel;
 use labels::Label;
@@ -24,7 +26,6 @@ use std::fs::File;
 use std::io::BufRead;
 use std::io::BufReader;
 use text::AnswerDisplay;
-use text::Fault;
 use text::answer_line;
 
 // Answers what is asked, with labels of the kind that is asked for.
@@ -73,14 +74,7 @@ fn answer_by<P: Policy<L> + Drop, L: Label>(
     }
     match File::open(rt, asked.file) {
         Ok(file) => answer_lines::<P, L, _>(rt, asked, &mut policy, BufReader::new(file)),
-        Err(e) => {
-            let file = asked.file;
-            eprintln!(
-                rt,
-                "{file}:0: cannot be opened: {e}; expected a file of questions, or - for standard input"
-            )?;
-            Err(Failure::Told)
-        }
+        Err(e) => Err(told(rt, asked, 0, Problem::Unopened(&e))),
     }
 }
 
@@ -90,19 +84,12 @@ fn answer_lines<P: Policy<L>, L: Label, R: BufRead + Drop>(
     policy: &mut P,
     reader: R,
 ) -> Result<(), Failure> {
-    let file = asked.file;
     let mut number = 0u64;
     for line in reader.lines(rt.alloc()) {
         number = number.saturating_add(1);
         match line {
             Ok(line) => answer_one::<P, L>(rt, asked, policy, number, line.as_str())?,
-            Err(e) => {
-                eprintln!(
-                    rt,
-                    "{file}:{number}: cannot be read: {e}; expected a line of text"
-                )?;
-                return Err(Failure::Told);
-            }
+            Err(e) => return Err(told(rt, asked, number, Problem::Unread(&e))),
         }
     }
     Ok(())
@@ -116,33 +103,22 @@ fn answer_one<P: Policy<L>, L: Label>(
     line: &str,
 ) -> Result<(), Failure> {
     match answer_line::<P, L>(policy, line) {
-        Ok(Some(answer)) => println!(rt, "{answer}")?,
+        Ok(Some(answer)) => rt.println(answer)?,
         Ok(None) => {}
-        Err(fault) => {
-            tell(rt, asked, number, fault)?;
-            return Err(Failure::Told);
-        }
+        Err(fault) => return Err(told(rt, asked, number, Problem::NoQuestion(fault, asked.kind))),
     }
     Ok(())
 }
 
-// What is wrong with a line and what was expected.
-fn tell(rt: &LibcRuntime, asked: Rules<'_>, number: u64, fault: Fault<'_>) -> Result<(), Failure> {
+// Tells what is wrong on standard error.
+fn told<'a>(rt: &LibcRuntime, asked: Rules<'a>, line: u64, problem: Problem<'a>) -> Failure {
     let file = asked.file;
-    let kind = asked.kind;
-    match fault {
-        Fault::Operation(word) => eprintln!(
-            rt,
-            "{file}:{number}: {word:?} is no operation; expected push, pop, noop, add, sub, less, load, store, jump, bnz, call, return or output"
-        )?,
-        Fault::Label(word) => eprintln!(
-            rt,
-            "{file}:{number}: {word:?} is no label of this kind; expected {kind}"
-        )?,
-        Fault::Extra(word) => eprintln!(
-            rt,
-            "{file}:{number}: {word:?} is one word too many; expected an operation and at most four labels"
-        )?,
+    match rt.eprintln(Complaint {
+        file,
+        line,
+        problem,
+    }) {
+        Ok(()) => Failure::Told,
+        Err(e) => Failure::Io(e),
     }
-    Ok(())
 }
