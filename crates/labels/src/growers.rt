@@ -1,5 +1,6 @@
 ghost use mathlib.Core.Path.{_≡_};
 ghost use Prim.Native.Nat.{_<_};
+ghost use lib.Bits.{bitOr};
 ghost use Rattle.labels.specs.Growers.{grower-sets, grower-text, hex, HexDigit};
 use crate::Label;
 use crate::Reading;
@@ -24,7 +25,7 @@ pub impl Label for Growers as GrowersLabel {
 
     fn join(self, other: Growers) -> Growers {
         Growers {
-            mask: self.mask | other.mask,
+            mask: union(self.mask, other.mask),
         }
     }
 
@@ -49,6 +50,13 @@ pub impl Label for Growers as GrowersLabel {
         let d = hex_digit(self.mask % 16);
         write!(f, "{a}{b}{c}{d}")
     }
+}
+
+// The members of either set.
+fn union(a: u16, b: u16) -> u16
+    ensures { λ r. ⌜ r ≡ bitOr a b ⌝ }
+{
+    a | b
 }
 
 // The lower-case hexadecimal digit of a number below 16.

@@ -19,8 +19,8 @@ pub struct Memory<L> {
 // A one-line cache over any policy, itself included: it remembers its last request and answer.
 #[derive(Drop)]
 pub struct Cached<P, L> {
-    below: P,
-    last: Option<Memory<L>>,
+    pub(crate) below: P,
+    pub(crate) last: Option<Memory<L>>,
 }
 
 impl<P: Policy<L>, L: Label> Cached<P, L> {

@@ -82,3 +82,6 @@ impl<L: Label> Request<L> {
             && same(self.c, other.c)
     }
 }
+
+#[cfg(test)]
+mod tests;
