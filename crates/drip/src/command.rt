@@ -1,5 +1,4 @@
 // The command line.
-use std::alloc::AllocError;
 use std::alloc::Global;
 use std::alloc::Refused;
 use std::fmt;
@@ -185,12 +184,6 @@ pub impl fmt::Display for KindName as KindNameDisplay {
             KindName::Levels => write!(f, "a level, one digit from 0 to 7"),
             KindName::Growers => write!(f, "growers, four hexadecimal digits in lower case"),
         }
-    }
-}
-
-pub impl From<AllocError> for Misuse<'_> as MisuseFromAlloc {
-    fn from(_e: AllocError) -> Self {
-        Misuse::Memory
     }
 }
 

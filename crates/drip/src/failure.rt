@@ -17,12 +17,6 @@ pub impl From<io::Error> for Failure as FailureFromIo {
     }
 }
 
-pub impl From<AllocError> for Failure as FailureFromAlloc {
-    fn from(e: AllocError) -> Failure {
-        Failure::Io(io::Error::from(e))
-    }
-}
-
 pub impl<T: Drop> From<Refused<T>> for Failure as FailureFromRefused {
     fn from(_e: Refused<T>) -> Failure {
         Failure::Io(io::Error::from(AllocError))

@@ -4,13 +4,11 @@ mod complaint;
 mod failure;
 mod questions;
 
-use crate::failure::FailureFromRefused;
 use command::Command;
-use command::Misuse;
 use command::MisuseDisplay;
 use failure::Failure;
-use failure::FailureFromAlloc;
 use failure::FailureFromIo;
+use failure::FailureFromRefused;
 use std::env;
 
 const USAGE: &str =

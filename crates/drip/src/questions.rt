@@ -33,21 +33,19 @@ pub fn answer(rt: &LibcRuntime, asked: Rules<'_>) -> Result<(), Failure> {
     match asked.kind {
         Kind::One(KindName::Levels) => answer_labelled::<Level>(rt, asked),
         Kind::One(KindName::Growers) => answer_labelled::<Growers>(rt, asked),
-        Kind::Pair(KindName::Levels, KindName::Levels) => answer_labelled::<Pair<Level, Level>>(
-            rt,
-            asked,
-        ),
-        Kind::Pair(KindName::Levels, KindName::Growers) => answer_labelled::<Pair<Level, Growers>>(
-            rt,
-            asked,
-        ),
-        Kind::Pair(KindName::Growers, KindName::Levels) => answer_labelled::<Pair<Growers, Level>>(
-            rt,
-            asked,
-        ),
-        Kind::Pair(KindName::Growers, KindName::Growers) => answer_labelled::<
-            Pair<Growers, Growers>,
-        >(rt, asked),
+        Kind::Pair(KindName::Levels, right) => answer_pairs::<Level>(rt, asked, right),
+        Kind::Pair(KindName::Growers, right) => answer_pairs::<Growers>(rt, asked, right),
+    }
+}
+
+fn answer_pairs<A: Label>(
+    rt: &LibcRuntime,
+    asked: Rules<'_>,
+    right: KindName,
+) -> Result<(), Failure> {
+    match right {
+        KindName::Levels => answer_labelled::<Pair<A, Level>>(rt, asked),
+        KindName::Growers => answer_labelled::<Pair<A, Growers>>(rt, asked),
     }
 }
 
