@@ -1,4 +1,5 @@
-// `drip rules`: questions from a file or standard input, answered by the published rows.
+// `drip rules`: questions from a file or standard input, answered by a policy that is true to the published rows.
+ghost use Rattle.rules.specs.Tables.{published};
 use crate::Failure;
 use crate::FailureFromIo;
 use crate::command::Kind;
@@ -65,7 +66,9 @@ fn answer_by<P: Policy<L> + Drop, L: Label>(
     rt: &LibcRuntime,
     asked: Rules<'_>,
     policy: P,
-) -> Result<(), Failure> {
+) -> Result<(), Failure>
+    requires { ⌜ P·Policy .faithful policy (published (L·Label .kind)) ⌝ }
+{
     let mut policy = policy;
     if asked.file == "-" {
         return answer_lines::<P, L, _>(rt, asked, &mut policy, BufReader::new(rt.stdin()));
@@ -81,7 +84,9 @@ fn answer_lines<P: Policy<L>, L: Label, R: BufRead + Drop>(
     asked: Rules<'_>,
     policy: &mut P,
     reader: R,
-) -> Result<(), Failure> {
+) -> Result<(), Failure>
+    requires { ⌜ P·Policy .faithful (now policy) (published (L·Label .kind)) ⌝ }
+{
     let mut number = 0u64;
     for line in reader.lines(rt.alloc()) {
         number = number.saturating_add(1);
@@ -99,7 +104,10 @@ fn answer_one<P: Policy<L>, L: Label>(
     policy: &mut P,
     number: u64,
     line: &str,
-) -> Result<(), Failure> {
+) -> Result<(), Failure>
+    requires { ⌜ P·Policy .faithful (now policy) (published (L·Label .kind)) ⌝ }
+    ensures { λ _. ⌜ P·Policy .faithful (now (policy .exit)) (published (L·Label .kind)) ⌝ }
+{
     match answer_line::<P, L>(policy, line) {
         Ok(Some(answer)) => rt.println(answer)?,
         Ok(None) => {}

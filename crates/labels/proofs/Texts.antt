@@ -10,7 +10,7 @@ use Rattle.std.specs.declared.option.Option.the-variants.{Some, None}
 use Rattle.labels.specs.Growers.{hex, HexDigit, grower-text}
 use Rattle.labels.specs.Level.{digit, level-text}
 use Rattle.labels.specs.Pair.{pair, pair-text}
-use Rattle.labels.specs.Text.{Apart, Begins, Reads}
+use Rattle.labels.specs.Text.{PrefixFree, Begins, Reads}
 use Rattle.labels.specs.declared.growers.mask.Growers.{Growers}
 use Rattle.labels.specs.declared.level.Level.{Level}
 use Rattle.labels.specs.declared.pair.Pair.{Pair}
@@ -47,8 +47,8 @@ four-bytes x a b c d p q r s =
     let ed = encode-ascii d (omega (arith, hex-byte (x .mask % 16) (omega arith))) in
     rw (ea, eb, ec, ed) (cc)
 
-pub growers-apart : Apart grower-text
-growers-apart a b s t e =
+pub growers-prefix-free : PrefixFree grower-text
+growers-prefix-free a b s t e =
     let p : hex (a .mask / 4096) ≡ hex (b .mask / 4096) = cc in
     let q : hex (a .mask / 256 % 16) ≡ hex (b .mask / 256 % 16) = cc in
     let r : hex (a .mask / 16 % 16) ≡ hex (b .mask / 16 % 16) = cc in
@@ -93,19 +93,19 @@ module _ {A B : Type 0} (left : A → List ℕ) (right : B → List ℕ) where
   in-two x bytes rest e = e ∙ append-assoc (left (x .left)) (right (x .right)) rest
 
   -- bytes that begin with the left text a go on with the right text of every pair with which they begin
-  pub pair-rest : Apart left → (bytes : List ℕ) (a : A) → Begins left bytes a → (x : Pair A B) → Begins (pair-text left right) bytes x
+  pub pair-rest : PrefixFree left → (bytes : List ℕ) (a : A) → Begins left bytes a → (x : Pair A B) → Begins (pair-text left right) bytes x
       → (x .left ≡ a) × Begins right (drop (length (left a)) bytes) (x .right)
-  pair-rest apart bytes a (rest, e) x (more, f) =
+  pair-rest free bytes a (rest, e) x (more, f) =
       let two = in-two x bytes more f in
-      let one : x .left ≡ a = apart (x .left) a (right (x .right) ++ more) rest (sym two ∙ e) in
+      let one : x .left ≡ a = free (x .left) a (right (x .right) ++ more) rest (sym two ∙ e) in
       (one, (more, ap₂ (λ n l. drop n l) (ap (λ y. length (left y)) (sym one)) two ∙ drop-text (left (x .left)) (right (x .right) ++ more)))
 
-  pub pair-apart : Apart left → Apart right → Apart (pair-text left right)
-  pair-apart apart-left apart-right x y s t e =
+  pub pair-prefix-free : PrefixFree left → PrefixFree right → PrefixFree (pair-text left right)
+  pair-prefix-free left-free right-free x y s t e =
       let whole = pair-text left right y ++ t in
-      let (one, (rest, f)) = pair-rest apart-left whole (y .left) (right (y .right) ++ t, append-assoc (left (y .left)) (right (y .right)) t) x (s, sym e) in
+      let (one, (rest, f)) = pair-rest left-free whole (y .left) (right (y .right) ++ t, append-assoc (left (y .left)) (right (y .right)) t) x (s, sym e) in
       let g : drop (length (left (y .left))) whole ≡ right (y .right) ++ t = ap (drop (length (left (y .left)))) (append-assoc (left (y .left)) (right (y .right)) t) ∙ drop-text (left (y .left)) (right (y .right) ++ t) in
-      ap₂ pair one (apart-right (x .right) (y .right) rest t (sym f ∙ g))
+      ap₂ pair one (right-free (x .right) (y .right) rest t (sym f ∙ g))
 
   -- the right text after the left one
   pub pair-begins : (bytes : List ℕ) (a : A) (n : ℕ) (b : B) → Begins left bytes a → n ≡ length (left a) → Begins right (drop n bytes) b → Begins (pair-text left right) bytes (pair a b)
@@ -117,5 +117,5 @@ module _ {A B : Type 0} (left : A → List ℕ) (right : B → List ℕ) where
   pub no-left : (bytes : List ℕ) → Reads left bytes None → Reads (pair-text left right) bytes None
   no-left bytes none x (rest, e) = none (x .left) (right (x .right) ++ rest, in-two x bytes rest e)
 
-  pub no-right : Apart left → (bytes : List ℕ) (a : A) (n : ℕ) → Begins left bytes a → n ≡ length (left a) → Reads right (drop n bytes) None → Reads (pair-text left right) bytes None
-  no-right apart bytes a n begins size none x there = none (x .right) (rw size (pair-rest apart bytes a begins x there .1))
+  pub no-right : PrefixFree left → (bytes : List ℕ) (a : A) (n : ℕ) → Begins left bytes a → n ≡ length (left a) → Reads right (drop n bytes) None → Reads (pair-text left right) bytes None
+  no-right free bytes a n begins size none x there = none (x .right) (rw size (pair-rest free bytes a begins x there .1))

@@ -7,9 +7,9 @@ use Rattle.std.specs.declared.option.Option.{Option}
 use Rattle.std.specs.declared.option.Option.the-variants.{Some, None}
 use Rattle.labels.specs.declared.Reading.{Reading}
 
--- bytes that begin with the texts of two labels: the labels are the same
-abbrev pub Apart : {L : Type 0} → (L → List ℕ) → Type 0
-Apart {L} text = (a b : L) (s t : List ℕ) → text a ++ s ≡ text b ++ t → a ≡ b
+-- no label's text begins another's: bytes that begin with the texts of two labels have one label twice
+abbrev pub PrefixFree : {L : Type 0} → (L → List ℕ) → Type 0
+PrefixFree {L} text = (a b : L) (s t : List ℕ) → text a ++ s ≡ text b ++ t → a ≡ b
 
 -- the bytes begin with the text of a
 abbrev pub Begins : {L : Type 0} → (L → List ℕ) → List ℕ → L → Type 0

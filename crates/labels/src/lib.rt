@@ -6,7 +6,7 @@ ghost use Prim.Native.Nat.{ℕ};
 ghost use Rattle.std.specs.Written.{Prints};
 ghost use Rattle.std.specs.declared.option.Option.the-variants.{Some};
 ghost use Rattle.labels.specs.Kind.{Kind, Lawful};
-ghost use Rattle.labels.specs.Text.{Apart, Reads};
+ghost use Rattle.labels.specs.Text.{PrefixFree, Reads};
 use std::fmt;
 
 mod growers;
@@ -27,10 +27,10 @@ pub trait Label: Copy {
 
     law lawful: { Lawful kind };
 
-    // The text of a label, as bytes.
+    // The text of a label, as bytes. No label's text begins another's.
     ghost text: { Self → List ℕ };
 
-    law apart: { Apart text };
+    law unambiguous: { PrefixFree text };
 
     // Whether `self` is at or below `other`.
     fn flows_to(self, other: Self) -> bool

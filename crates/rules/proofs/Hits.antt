@@ -2,7 +2,7 @@
 use mathlib.Core.Path.{_≡_, refl, sym, ap, _∙_}
 use Rattle.std.specs.declared.option.Option.{Option}
 use Rattle.std.specs.declared.option.Option.the-variants.{Some}
-use Rattle.rules.specs.Policies.{Recalled, memory}
+use Rattle.rules.specs.Policies.{CachedAsked, memory}
 use Rattle.rules.specs.declared.Request.{Request}
 use Rattle.rules.specs.declared.Verdict.{Verdict}
 use Rattle.rules.specs.declared.cached.Cached.{Cached}
@@ -15,7 +15,7 @@ one-answer : {L : Type 0} {q : Request L} {a b : Option (Verdict L)} → memory 
 one-answer e = ap (λ m. m .answer) (same-memory _ _ e)
 
 pub recalled : {P L : Type 0} {asked : P → Request L → Option (Verdict L) → P → Type 0} (s : Cached P L) (m : Memory L) (q : Request L)
-    → s .last ≡ Some m → m .request ≡ q → Recalled asked s q (m .answer) s
+    → s .last ≡ Some m → m .request ≡ q → CachedAsked asked s q (m .answer) s
 recalled s m q held same =
     let e : s .last ≡ memory q (m .answer) = held ∙ ap (λ x. memory x (m .answer)) same in
     record { remembers = e; hit = λ a f. (one-answer (sym e ∙ f), refl); miss = λ other. absurd (other (m .answer) e) }

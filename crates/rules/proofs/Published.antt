@@ -5,7 +5,7 @@ use Rattle.std.specs.declared.option.Option.the-variants.{None}
 use Rattle.labels.specs.Kind.{Kind, Lawful}
 use Rattle.labels.proofs.Joins.{unit-left, unit-right}
 use Rattle.rules.specs.Rows.{by-rows, published-rows}
-use Rattle.rules.specs.Tables.{Same, published, row}
+use Rattle.rules.specs.Tables.{Same, published, published-row}
 use Rattle.rules.specs.declared.Opcode.{Opcode}
 use Rattle.rules.specs.declared.Opcode.the-variants.{Push, Pop, Noop, Add, Sub, Less, Load, Store, Jump, Bnz, Call, Return, Output}
 
@@ -17,7 +17,7 @@ module _ {L : Type 0} (below : L → L → Bool) (bottom : L) (join : L → L �
   abbrev kind : Kind L
   kind = record { below = below; bottom = bottom; join = join }
 
-  each : (op : Opcode) (p a b c : L) → by-rows kind published-rows (record { op = op; pc = p; a = a; b = b; c = c }) ≡ row kind op p a b c
+  each : (op : Opcode) (p a b c : L) → by-rows kind published-rows (record { op = op; pc = p; a = a; b = b; c = c }) ≡ published-row kind op p a b c
   each Push p a b c = simp (left, right)
   each Pop p a b c = simp (left, right)
   each Noop p a b c = simp (left, right)

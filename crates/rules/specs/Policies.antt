@@ -12,11 +12,11 @@ use Rattle.rules.specs.declared.direct.Direct.{Direct}
 
 module _ {L : Type 0} (kind : Kind L) where
   -- a policy that works the published rows out is true to them, whatever it holds
-  abbrev pub WorksOut : Direct → Table L → Type 0
-  WorksOut policy t = Same (published kind) t
+  abbrev pub DirectFaithful : Direct → Table L → Type 0
+  DirectFaithful policy t = Same (published kind) t
 
-  abbrev pub WorkedOut : Direct → Request L → Option (Verdict L) → Direct → Type 0
-  WorkedOut before request answer after = (answer ≡ published kind request) × (after ≡ before)
+  abbrev pub DirectAsked : Direct → Request L → Option (Verdict L) → Direct → Type 0
+  DirectAsked before request answer after = (answer ≡ published kind request) × (after ≡ before)
 
 -- what is remembered, if anything, is the table's answer
 abbrev pub Remembers : {L : Type 0} → Option (Memory L) → Table L → Type 0
@@ -24,14 +24,14 @@ Remembers None t = Unit {0}
 Remembers (Some m) t = m .answer ≡ t (m .request)
 
 -- a cached policy is true to a table when the one below is and what it remembers is the table's answer
-abbrev pub Recalls : {P L : Type 0} → (P → Table L → Type 0) → Cached P L → Table L → Type 0
-Recalls faithful policy t = faithful (policy .below) t × Remembers (policy .last) t
+abbrev pub CachedFaithful : {P L : Type 0} → (P → Table L → Type 0) → Cached P L → Table L → Type 0
+CachedFaithful faithful policy t = faithful (policy .below) t × Remembers (policy .last) t
 
 abbrev pub memory : {L : Type 0} → Request L → Option (Verdict L) → Option (Memory L)
 memory request answer = Some (record { request = request; answer = answer })
 
 -- What asking a cached policy does, where `asked` says what asking the one below does.
-pub record Recalled {P L : Type 0} (asked : P → Request L → Option (Verdict L) → P → Type 0) (before : Cached P L) (request : Request L) (answer : Option (Verdict L)) (after : Cached P L) : Type 0 where
+pub record CachedAsked {P L : Type 0} (asked : P → Request L → Option (Verdict L) → P → Type 0) (before : Cached P L) (request : Request L) (answer : Option (Verdict L)) (after : Cached P L) : Type 0 where
   -- it remembers this request and answer
   pub remembers : after .last ≡ memory request answer
   -- told what it remembered, it answers from memory and the one below is as it was

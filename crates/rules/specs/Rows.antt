@@ -17,21 +17,21 @@ use Rattle.rules.specs.declared.rows.Letters.{Letters}
 use Rattle.rules.specs.declared.rows.Row.{Row}
 use Rattle.rules.specs.declared.rows.RowTable.{RowTable}
 
--- the place of an operation's row
-abbrev pub place : Opcode → ℕ
-place Push = 0
-place Pop = 1
-place Noop = 2
-place Add = 3
-place Sub = 4
-place Less = 5
-place Load = 6
-place Store = 7
-place Jump = 8
-place Bnz = 9
-place Call = 10
-place Return = 11
-place Output = 12
+-- where an operation's row stands
+abbrev pub row-index : Opcode → ℕ
+row-index Push = 0
+row-index Pop = 1
+row-index Noop = 2
+row-index Add = 3
+row-index Sub = 4
+row-index Less = 5
+row-index Load = 6
+row-index Store = 7
+row-index Jump = 8
+row-index Bnz = 9
+row-index Call = 10
+row-index Return = 11
+row-index Output = 12
 
 abbrev pub is-store : Opcode → Bool
 is-store Push = false
@@ -59,7 +59,7 @@ no-letters = letters false false false false
 
 -- the row of an operation
 abbrev pub row-at : List Row → Opcode → Row
-row-at rows op = getD rows (place op) (row-of no-letters no-letters)
+row-at rows op = getD rows (row-index op) (row-of no-letters no-letters)
 
 abbrev pub published-rows : List Row
 published-rows =
@@ -97,9 +97,9 @@ module _ {L : Type 0} (kind : Kind L) where
   by-rows rows q = cond (refused q) None (verdict (joined (row-at rows (q .op) .pc) q) (joined (row-at rows (q .op) .result) q))
 
   -- a policy that reads its rows is true to the table that they give
-  abbrev pub Reads : RowTable → Table L → Type 0
-  Reads policy t = Same (by-rows (policy .rows)) t
+  abbrev pub RowsFaithful : RowTable → Table L → Type 0
+  RowsFaithful policy t = Same (by-rows (policy .rows)) t
 
   -- asked, it reads its rows off and keeps them
-  abbrev pub ReadOff : RowTable → Request L → Option (Verdict L) → RowTable → Type 0
-  ReadOff before request answer after = (answer ≡ by-rows (before .rows) request) × (after ≡ before)
+  abbrev pub RowsAsked : RowTable → Request L → Option (Verdict L) → RowTable → Type 0
+  RowsAsked before request answer after = (answer ≡ by-rows (before .rows) request) × (after ≡ before)

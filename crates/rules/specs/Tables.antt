@@ -29,21 +29,21 @@ module _ {L : Type 0} (kind : Kind L) where
   open Kind kind using (below, bottom, join)
 
   -- the rows by operation, for the labels P of the program counter, A, B and C
-  abbrev pub row : Opcode → L → L → L → L → Option (Verdict L)
-  row Push p a b c = verdict p a
-  row Pop p a b c = verdict p bottom
-  row Noop p a b c = verdict p bottom
-  row Add p a b c = verdict p (join a b)
-  row Sub p a b c = verdict p (join a b)
-  row Less p a b c = verdict p (join a b)
-  row Load p a b c = verdict p (join a b)
-  row Store p a b c = cond (below (join a p) c) (verdict p (join (join a b) p)) None
-  row Jump p a b c = verdict (join a p) bottom
-  row Bnz p a b c = verdict (join a p) bottom
-  row Call p a b c = verdict (join a p) p
-  row Return p a b c = verdict a (join b p)
-  row Output p a b c = verdict p (join a p)
+  abbrev pub published-row : Opcode → L → L → L → L → Option (Verdict L)
+  published-row Push p a b c = verdict p a
+  published-row Pop p a b c = verdict p bottom
+  published-row Noop p a b c = verdict p bottom
+  published-row Add p a b c = verdict p (join a b)
+  published-row Sub p a b c = verdict p (join a b)
+  published-row Less p a b c = verdict p (join a b)
+  published-row Load p a b c = verdict p (join a b)
+  published-row Store p a b c = cond (below (join a p) c) (verdict p (join (join a b) p)) None
+  published-row Jump p a b c = verdict (join a p) bottom
+  published-row Bnz p a b c = verdict (join a p) bottom
+  published-row Call p a b c = verdict (join a p) p
+  published-row Return p a b c = verdict a (join b p)
+  published-row Output p a b c = verdict p (join a p)
 
   -- the published rows
   abbrev pub published : Table L
-  published q = row (q .op) (q .pc) (q .a) (q .b) (q .c)
+  published q = published-row (q .op) (q .pc) (q .a) (q .b) (q .c)

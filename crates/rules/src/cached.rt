@@ -1,6 +1,6 @@
 ghost use mathlib.Core.Path.{_≡_};
 ghost use Rattle.std.specs.declared.option.Option.the-variants.{None};
-ghost use Rattle.rules.specs.Policies.{Recalls, Recalled};
+ghost use Rattle.rules.specs.Policies.{CachedFaithful, CachedAsked};
 ghost use Rattle.rules.specs.Tables.{Table, Obeys};
 use crate::Policy;
 use crate::Request;
@@ -28,20 +28,20 @@ impl<P: Policy<L>, L: Label> Cached<P, L> {
     pub fn new(below: P) -> Cached<P, L>
         ensures below { λ r. ⌜ r .below ≡ below ⌝ }
         ensures empty { λ r. ⌜ r .last ≡ None ⌝ }
-        ensures faithful { λ r. ⌜ ((t : Table L) → P·Policy .faithful below t → Recalls (P·Policy .faithful) r t) ⌝ }
+        ensures faithful { λ r. ⌜ ((t : Table L) → P·Policy .faithful below t → CachedFaithful (P·Policy .faithful) r t) ⌝ }
     {
         Cached { below, last: None }
     }
 }
 
 pub impl<P: Policy<L>, L: Label> Policy<L> for Cached<P, L> as CachedPolicy {
-    ghost faithful = { Recalls (P·Policy .faithful) };
+    ghost faithful = { CachedFaithful (P·Policy .faithful) };
 
-    ghost asked = { Recalled (P·Policy .asked) };
+    ghost asked = { CachedAsked (P·Policy .asked) };
 
     fn rule(&mut self, request: Request<L>) -> Option<Verdict<L>>
-        ensures obeys { λ r. ⌜ Obeys (Recalls (P·Policy .faithful)) (now (self .entry)) request r (now (self .exit)) ⌝ }
-        ensures asked { λ r. ⌜ Recalled (P·Policy .asked) (now (self .entry)) request r (now (self .exit)) ⌝ }
+        ensures obeys { λ r. ⌜ Obeys (CachedFaithful (P·Policy .faithful)) (now (self .entry)) request r (now (self .exit)) ⌝ }
+        ensures asked { λ r. ⌜ CachedAsked (P·Policy .asked) (now (self .entry)) request r (now (self .exit)) ⌝ }
     {
         if let Some(memory) = self.last {
             if memory.request.same_as(request) {

@@ -1,5 +1,5 @@
 ghost use mathlib.Core.Path.{_≡_};
-ghost use Rattle.rules.specs.Policies.{WorksOut, WorkedOut};
+ghost use Rattle.rules.specs.Policies.{DirectFaithful, DirectAsked};
 ghost use Rattle.rules.specs.Tables.{Obeys, published};
 use crate::Opcode;
 use crate::Policy;
@@ -12,22 +12,22 @@ use labels::Label;
 pub struct Direct {}
 
 impl Direct {
-    // True to the published rows, for every kind of label.
+    // True to the published rows, for labels of kind L.
     pub fn new<L: Label>() -> Direct
-        ensures { λ r. ⌜ WorksOut (L·Label .kind) r (published (L·Label .kind)) ⌝ }
+        ensures { λ r. ⌜ DirectFaithful (L·Label .kind) r (published (L·Label .kind)) ⌝ }
     {
         Direct {}
     }
 }
 
 pub impl<L: Label> Policy<L> for Direct as DirectPolicy {
-    ghost faithful = { WorksOut (L·Label .kind) };
+    ghost faithful = { DirectFaithful (L·Label .kind) };
 
-    ghost asked = { WorkedOut (L·Label .kind) };
+    ghost asked = { DirectAsked (L·Label .kind) };
 
     fn rule(&mut self, request: Request<L>) -> Option<Verdict<L>>
-        ensures obeys { λ r. ⌜ Obeys (WorksOut (L·Label .kind)) (now (self .entry)) request r (now (self .exit)) ⌝ }
-        ensures asked { λ r. ⌜ WorkedOut (L·Label .kind) (now (self .entry)) request r (now (self .exit)) ⌝ }
+        ensures obeys { λ r. ⌜ Obeys (DirectFaithful (L·Label .kind)) (now (self .entry)) request r (now (self .exit)) ⌝ }
+        ensures asked { λ r. ⌜ DirectAsked (L·Label .kind) (now (self .entry)) request r (now (self .exit)) ⌝ }
     {
         work_out(request)
     }

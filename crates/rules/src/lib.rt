@@ -8,10 +8,14 @@ ghost use Rattle.rules.specs.Tables.{Table, Obeys};
 use labels::Label;
 use labels::same;
 
+mod asking;
 mod cached;
 mod direct;
 mod rows;
 
+pub use asking::ask_cached;
+pub use asking::ask_direct;
+pub use asking::ask_row_table;
 pub use cached::Cached;
 pub use cached::CachedPolicy;
 pub use cached::Memory;

@@ -1,5 +1,5 @@
 ghost use mathlib.Core.Path.{_≡_};
-ghost use Rattle.rules.specs.Rows.{letter, joined, refused, row-of, published-rows, Reads, ReadOff};
+ghost use Rattle.rules.specs.Rows.{letter, joined, refused, row-of, published-rows, RowsFaithful, RowsAsked};
 ghost use Rattle.rules.specs.Tables.{Obeys, published};
 use crate::Opcode;
 use crate::Policy;
@@ -30,10 +30,10 @@ pub struct RowTable {
 }
 
 impl RowTable {
-    // Holds the published rows, and is true to them, for every kind of label.
+    // Holds the published rows, and is true to them, for labels of kind L.
     pub fn new<L: Label>() -> RowTable
         ensures rows { λ r. ⌜ r .rows ≡ published-rows ⌝ }
-        ensures faithful { λ r. ⌜ Reads (L·Label .kind) r (published (L·Label .kind)) ⌝ }
+        ensures faithful { λ r. ⌜ RowsFaithful (L·Label .kind) r (published (L·Label .kind)) ⌝ }
     {
         RowTable {
             rows: published_rows(),
@@ -42,13 +42,13 @@ impl RowTable {
 }
 
 pub impl<L: Label> Policy<L> for RowTable as RowTablePolicy {
-    ghost faithful = { Reads (L·Label .kind) };
+    ghost faithful = { RowsFaithful (L·Label .kind) };
 
-    ghost asked = { ReadOff (L·Label .kind) };
+    ghost asked = { RowsAsked (L·Label .kind) };
 
     fn rule(&mut self, request: Request<L>) -> Option<Verdict<L>>
-        ensures obeys { λ r. ⌜ Obeys (Reads (L·Label .kind)) (now (self .entry)) request r (now (self .exit)) ⌝ }
-        ensures asked { λ r. ⌜ ReadOff (L·Label .kind) (now (self .entry)) request r (now (self .exit)) ⌝ }
+        ensures obeys { λ r. ⌜ Obeys (RowsFaithful (L·Label .kind)) (now (self .entry)) request r (now (self .exit)) ⌝ }
+        ensures asked { λ r. ⌜ RowsAsked (L·Label .kind) (now (self .entry)) request r (now (self .exit)) ⌝ }
     {
         if forbidden(request) {
             return None;
@@ -110,27 +110,27 @@ const ABP: Letters = Letters { p: true, ..AB };
 fn published_rows() -> [Row; 13]
     ensures { λ r. ⌜ r ≡ published-rows ⌝ }
 {
-    let arithmetic = gives(P, AB);
-    let branch = gives(AP, NONE);
+    let from_both = row_of(P, AB);
+    let branch = row_of(AP, NONE);
     [
-        gives(P, A),
-        gives(P, NONE),
-        gives(P, NONE),
-        arithmetic,
-        arithmetic,
-        arithmetic,
-        arithmetic,
-        gives(P, ABP),
+        row_of(P, A),
+        row_of(P, NONE),
+        row_of(P, NONE),
+        from_both,
+        from_both,
+        from_both,
+        from_both,
+        row_of(P, ABP),
         branch,
         branch,
-        gives(AP, P),
-        gives(A, BP),
-        gives(P, AP),
+        row_of(AP, P),
+        row_of(A, BP),
+        row_of(P, AP),
     ]
 }
 
-// An operation whose new label of the program counter and whose result have these letters.
-fn gives(pc: Letters, result: Letters) -> Row
+// The row with these letters.
+fn row_of(pc: Letters, result: Letters) -> Row
     ensures { λ r. ⌜ r ≡ row-of pc result ⌝ }
 {
     Row { pc, result }

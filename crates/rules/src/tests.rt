@@ -1,5 +1,5 @@
 ghost use Rattle.labels.specs.Level.{levels};
-ghost use Rattle.rules.specs.Policies.{WorksOut, WorkedOut};
+ghost use Rattle.rules.specs.Policies.{DirectFaithful, DirectAsked};
 ghost use Rattle.rules.specs.Tables.{Obeys};
 use super::*;
 use labels::Level;
@@ -65,13 +65,13 @@ struct Counting {
 }
 
 impl Policy<Level> for Counting as CountingPolicy {
-    ghost faithful = { λ p. WorksOut levels (p .direct) };
+    ghost faithful = { λ p. DirectFaithful levels (p .direct) };
 
-    ghost asked = { λ p q r s. WorkedOut levels (p .direct) q r (s .direct) };
+    ghost asked = { λ p q r s. DirectAsked levels (p .direct) q r (s .direct) };
 
     fn rule(&mut self, request: Request<Level>) -> Option<Verdict<Level>>
-        ensures obeys { λ r. ⌜ Obeys (WorksOut levels) (now (self .entry) .direct) request r (now (self .exit) .direct) ⌝ }
-        ensures asked { λ r. ⌜ WorkedOut levels (now (self .entry) .direct) request r (now (self .exit) .direct) ⌝ }
+        ensures obeys { λ r. ⌜ Obeys (DirectFaithful levels) (now (self .entry) .direct) request r (now (self .exit) .direct) ⌝ }
+        ensures asked { λ r. ⌜ DirectAsked levels (now (self .entry) .direct) request r (now (self .exit) .direct) ⌝ }
     {
         self.count = self.count.saturating_add(1);
         self.direct.rule(request)

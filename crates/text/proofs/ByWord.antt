@@ -4,32 +4,29 @@ use mathlib.Core.Logic.{inl, inr}
 use mathlib.Core.Path.{_≡_, refl, sym, ap, subst, _∙_}
 use Prim.Native.Nat.{ℕ, suc}
 use native.Mathlib.Omega.{arith}
-use denote.Ref.{now}
 use lib.ListN.{length, length-append}
 use Rattle.std.specs.declared.option.Option.the-variants.{Some, None}
-use Rattle.labels.specs.Text.{Apart, Begins}
-use Rattle.rules.specs.declared.Opcode.{Opcode}
-use Rattle.rules.specs.declared.Request.{Request}
-use Rattle.text.specs.Operations.{name}
-use Rattle.text.specs.Questions.{LabelNamed, WrongLabel, Wrong, Given, Asks, Taken, FirstWrong}
+use Rattle.labels.specs.Text.{PrefixFree, Begins}
+use Rattle.text.specs.Questions.{WrongLabel, Given, Taken, FirstWrong}
+use Rattle.text.specs.Words.{Names}
 use Rattle.text.specs.declared.questions.Fault.{Fault}
 
 -- A word and the label read off its front.
 
 module _ {L : Type 0} (text : L → List ℕ) (word : List ℕ) where
-  pub whole-word : (a : L) (n : ℕ) → Begins text word a → n ≡ length (text a) → n ≡ length word → LabelNamed text word (Some a)
+  pub whole-word : (a : L) (n : ℕ) → Begins text word a → n ≡ length (text a) → n ≡ length word → Names text word (Some a)
   whole-word a n (rest, e) size all = e ∙ ap (λ l. text a ++ l) (none rest (omega (arith, ap length e ∙ length-append (text a) rest))) ∙ append-nil (text a)
     where
       none : (l : List ℕ) → length l ≡ 0 → l ≡ []
       none [] e = refl
       none (x ∷ l) e = absurd (omega arith)
 
-  pub no-word : ((a : L) → Begins text word a → ⊥) → LabelNamed text word None
+  pub no-word : ((a : L) → Begins text word a → ⊥) → Names text word None
   no-word none a e = none a ([], e ∙ sym (append-nil (text a)))
 
-  pub part-word : Apart text → (a : L) (n : ℕ) → Begins text word a → n ≡ length (text a) → (n ≡ length word → ⊥) → LabelNamed text word None
-  part-word apart a n (rest, e) size part b is =
-      let same : a ≡ b = apart a b rest [] (sym e ∙ is ∙ sym (append-nil (text b))) in
+  pub part-word : PrefixFree text → (a : L) (n : ℕ) → Begins text word a → n ≡ length (text a) → (n ≡ length word → ⊥) → Names text word None
+  part-word free a n (rest, e) size part b is =
+      let same : a ≡ b = free a b rest [] (sym e ∙ is ∙ sym (append-nil (text b))) in
       part (size ∙ ap (λ x. length (text x)) same ∙ ap length (sym is))
 
 -- One word more.
@@ -43,6 +40,7 @@ module _ {L : Type 0} (text : L → List ℕ) (bottom : L) where
   wrong-more [] after a n f (is, none) wrong = absurd (subst (λ l. WrongLabel text l n f) none wrong)
   wrong-more (w ∷ ws) after a n f (is, same) wrong = inr ((a, is), subst (λ l. WrongLabel text l n f) same wrong)
 
-  pub wrong-here : (ws : List (List ℕ)) (n : ℕ) (f : Fault) → FirstWrong text bottom ws f → WrongLabel text ws (suc n) f
+module _ {L : Type 0} (text : L → List ℕ) where
+  pub wrong-here : (ws : List (List ℕ)) (n : ℕ) (f : Fault) → FirstWrong text ws f → WrongLabel text ws (suc n) f
   wrong-here [] n f wrong = wrong
   wrong-here (w ∷ ws) n f wrong = inl wrong

@@ -3,7 +3,7 @@ use mathlib.Core.Path.{_≡_, refl, sym, ap, ap₂, subst, _∙_}
 use mathlib.Core.Bool.{Bool, true, false, cond, not, Bool·beq}
 use mathlib.Core.List.{List, [], _∷_}
 use mathlib.Core.Logic.{⊎-elim}
-use Prim.Native.Nat.{ℕ, zero, suc, _+_, _-_, _≤_, _<_}
+use Prim.Native.Nat.{ℕ, zero, suc, _≤_, _<_}
 use native.Mathlib.Numerals.{add-one}
 use native.Mathlib.Omega.{arith}
 use lib.ListN.{length, getD, take, drop}
@@ -14,7 +14,7 @@ use Rattle.std.proofs.shelf.Text.{boundary-start, boundary-end, boundary-before
 use Rattle.std.proofs.str.Laws.{order}
 use Rattle.std.specs.Text.{Utf8}
 use Rattle.std.specs.Words.{Boundary}
-use Rattle.text.specs.Words.{blank, uncommented, word, words-in, words, run}
+use Rattle.text.specs.Words.{blank, uncommented, word, words-in, words, trimmed, behind, run}
 
 -- A run of bytes of one sort: `of blanks b` says that b is of the sort.
 
@@ -127,19 +127,33 @@ starts : (bs : List ℕ) → 0 < length (drop (run true bs) bs) → blank (getD 
 starts [] h = absurd (omega arith)
 starts (b ∷ bs) h = ⊎-elim (λ e. rw e (starts bs (rw e at h))) (λ e. rw e e) (cases-bool (blank b))
 
--- the line behind the first n bytes, its blanks
+trims : (bs : List ℕ) → drop (run true bs) bs ≡ trimmed bs
+trims [] = refl
+trims (b ∷ bs) = ⊎-elim (λ e. rw e (trims bs)) (λ e. rw e refl) (cases-bool (blank b))
+
+leaves : (bs : List ℕ) → drop (run false bs) bs ≡ behind bs
+leaves [] = refl
+leaves (b ∷ bs) = ⊎-elim (λ e. rw e refl) (λ e. rw e (leaves bs)) (cases-bool (blank b))
+
+-- The line without its blanks, `rest`, is empty, or a word comes first.
 module _ (line rest : List ℕ) (n : ℕ) (blanks : n ≡ run true line) (back : rest ≡ drop n line) where
+  here : rest ≡ drop (run true line) line
+  here = back ∙ ap (λ k. drop k line) blanks
+
   skipped : words line ≡ words rest
-  skipped = words-skip line ∙ ap words (sym (back ∙ ap (λ k. drop k line) blanks))
+  skipped = words-skip line ∙ ap words (sym here)
 
   pub no-words : length rest ≡ 0 → words line ≡ []
   no-words e = skipped ∙ none rest e
 
-  pub next : (m : ℕ) (front behind : List ℕ) → 0 < length rest → m ≡ run false rest → front ≡ take m rest → behind ≡ drop m rest → words line ≡ front ∷ words behind
-  next m front behind some is taken dropped =
-      let here : rest ≡ drop (run true line) line = back ∙ ap (λ k. drop k line) blanks in
-      let dark = rw (← here) at (starts line (subst (λ (l : List ℕ). 0 < length l) here some)) in
-      skipped ∙ first rest some dark ∙ ap₂ (λ x y. x ∷ words y) (sym (taken ∙ ap (λ k. take k rest) is)) (sym (dropped ∙ ap (λ k. drop k rest) is))
+  module _ (m : ℕ) (front more : List ℕ) (is : m ≡ run false rest) (taken : front ≡ take m rest) (dropped : more ≡ drop m rest) where
+    pub next : 0 < length rest → words line ≡ front ∷ words more
+    next some =
+        let dark = rw (← here) at (starts line (subst (λ (l : List ℕ). 0 < length l) here some)) in
+        skipped ∙ first rest some dark ∙ ap₂ (λ x y. x ∷ words y) (sym (taken ∙ ap (λ k. take k rest) is)) (sym (dropped ∙ ap (λ k. drop k rest) is))
+
+    pub after : more ≡ behind (trimmed line)
+    after = dropped ∙ ap (λ k. drop k rest) is ∙ leaves rest ∙ ap behind (here ∙ trims line)
 
 -- What stands before the comment.
 

@@ -29,8 +29,8 @@ ByTable t (Ok (Some x)) = x .verdict ≡ t (x .request)
 ByTable t (Err f) = Unit {0}
 
 -- true to any table before, the policy answers as that table does and is true to it after
-abbrev pub Told : {P L : Type 0} → (P → Table L → Type 0) → P → Result (Option (Answer L)) Fault → P → Type 0
-Told {P} {L} faithful before r after = (t : Table L) → faithful before t → ByTable t r × faithful after t
+abbrev pub AnswersByTable : {P L : Type 0} → (P → Table L → Type 0) → P → Result (Option (Answer L)) Fault → P → Type 0
+AnswersByTable {P} {L} faithful before r after = (t : Table L) → faithful before t → ByTable t r × faithful after t
 
 -- the text of an answer: the whole request, then the verdict
 module _ {L : Type 0} (text : L → List ℕ) where

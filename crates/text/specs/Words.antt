@@ -22,7 +22,7 @@ abbrev pub word : List ℕ → List ℕ
 word [] = []
 word (b ∷ bs) = cond (blank b) [] (b ∷ word bs)
 
--- the words of bs; where bs goes on a word, those after it
+-- the words of bs; with `on`, bs goes on a word already begun, which is left out
 abbrev pub words-in : Bool → List ℕ → List (List ℕ)
 words-in on [] = []
 words-in on (b ∷ bs) = cond (blank b) (words-in false bs) (cond on (words-in true bs) (word (b ∷ bs) ∷ words-in true bs))
@@ -30,12 +30,27 @@ words-in on (b ∷ bs) = cond (blank b) (words-in false bs) (cond on (words-in t
 abbrev pub words : List ℕ → List (List ℕ)
 words = words-in false
 
--- the first word and what comes after it
+-- the line without the blanks at its front
+abbrev pub trimmed : List ℕ → List ℕ
+trimmed [] = []
+trimmed (b ∷ bs) = cond (blank b) (trimmed bs) (b ∷ bs)
+
+-- the bytes from the first blank on
+abbrev pub behind : List ℕ → List ℕ
+behind [] = []
+behind (b ∷ bs) = cond (blank b) (b ∷ bs) (behind bs)
+
+-- the first word, if any, and what comes behind it
 abbrev pub NextWord : List ℕ → Option (RefT (List ℕ) × RefT (List ℕ)) → Type 0
 NextWord line None = words line ≡ []
-NextWord line (Some r) = words line ≡ now (r .0) ∷ words (now (r .1))
+NextWord line (Some r) = (words line ≡ now (r .0) ∷ words (now (r .1))) × (now (r .1) ≡ behind (trimmed line))
 
--- how many bytes at the front are blanks, or are none
+-- how many bytes at the front are blanks, or how many are not
 abbrev pub run : Bool → List ℕ → ℕ
 run blanks [] = 0
 run blanks (b ∷ bs) = cond (cond (blank b) blanks (not blanks)) (suc (run blanks bs)) 0
+
+-- which x has the word as its text, if any
+abbrev pub Names : {X : Type 0} → (X → List ℕ) → List ℕ → Option X → Type 0
+Names {X} text word None = (x : X) → word ≡ text x → ⊥
+Names text word (Some x) = word ≡ text x

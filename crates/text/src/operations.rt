@@ -1,5 +1,6 @@
 ghost use mathlib.Core.Path.{_≡_};
-ghost use Rattle.text.specs.Operations.{name, Names};
+ghost use Rattle.text.specs.Operations.{name};
+ghost use Rattle.text.specs.Words.{Names};
 use rules::Opcode;
 
 // The name of an operation.
@@ -25,7 +26,7 @@ pub fn name_of(op: Opcode) -> &'static str
 
 // The operation of that name, if any.
 pub fn operation_named(word: &str) -> Option<Opcode>
-    ensures { λ r. ⌜ Names (now (word .entry)) r ⌝ }
+    ensures { λ r. ⌜ Names name (now (word .entry)) r ⌝ }
 {
     match word {
         "push" => Some(Opcode::Push),

@@ -1,7 +1,8 @@
 ghost use Rattle.std.specs.declared.option.Option.the-variants.{Some};
 ghost use Rattle.std.specs.Written.{Prints};
-ghost use Rattle.text.specs.Answers.{Answers, Told, request-text, verdict-text, answer-text};
-ghost use Rattle.text.specs.Questions.{LabelNamed, NextLabel, Reads};
+ghost use Rattle.text.specs.Answers.{Answers, AnswersByTable, request-text, verdict-text, answer-text};
+ghost use Rattle.text.specs.Questions.{NextLabel, ReadsQuestion};
+ghost use Rattle.text.specs.Words.{Names};
 use crate::before_comment;
 use crate::name_of;
 use crate::next_word;
@@ -37,7 +38,7 @@ pub fn answer_line<'a, P: Policy<L>, L: Label>(
     line: &'a str,
 ) -> Result<Option<Answer<L>>, Fault<'a>>
     ensures answers { λ r. ⌜ Answers (L·Label .text) (L·Label .kind .bottom) (P·Policy .asked) (now (line .entry)) (now (policy .entry)) r (now (policy .exit)) ⌝ }
-    ensures told { λ r. ⌜ Told (P·Policy .faithful) (now (policy .entry)) r (now (policy .exit)) ⌝ }
+    ensures told { λ r. ⌜ AnswersByTable (P·Policy .faithful) (now (policy .entry)) r (now (policy .exit)) ⌝ }
 {
     let Some(request) = read_request(before_comment(line))? else {
         return Ok(None);
@@ -48,7 +49,7 @@ pub fn answer_line<'a, P: Policy<L>, L: Label>(
 
 // The question that the words ask, if there are any: an operation and up to four labels, P, A, B and C. Those left out are bottom.
 pub fn read_request<L: Label>(line: &str) -> Result<Option<Request<L>>, Fault<'_>>
-    ensures { λ r. ⌜ Reads (L·Label .text) (L·Label .kind .bottom) (now (line .entry)) r ⌝ }
+    ensures { λ r. ⌜ ReadsQuestion (L·Label .text) (L·Label .kind .bottom) (now (line .entry)) r ⌝ }
 {
     let Some((word, rest)) = next_word(line) else {
         return Ok(None);
@@ -81,7 +82,7 @@ fn next_label<L: Label>(line: &str) -> Result<(L, &str), Fault<'_>>
 
 // The label whose text the word is, if any.
 pub fn label_named<L: Label>(word: &str) -> Option<L>
-    ensures { λ r. ⌜ LabelNamed (L·Label .text) (now (word .entry)) r ⌝ }
+    ensures { λ r. ⌜ Names (L·Label .text) (now (word .entry)) r ⌝ }
 {
     let reading = L::read(word.as_bytes())?;
     if reading.length == word.len() {

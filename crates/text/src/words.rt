@@ -12,7 +12,7 @@ pub fn before_comment(line: &str) -> &str
     }
 }
 
-// The first word and what comes after it.
+// The first word and what comes behind it.
 pub fn next_word(line: &str) -> Option<(&str, &str)>
     ensures { λ r. ⌜ NextWord (now (line .entry)) r ⌝ }
 {
@@ -23,7 +23,7 @@ pub fn next_word(line: &str) -> Option<(&str, &str)>
     Some(rest.split_at(run_length(rest, false)))
 }
 
-// How many bytes at the front are blanks, or how many are none. No character is cut there.
+// How many bytes at the front are blanks, or how many are not. No character is cut there.
 fn run_length(text: &str, blanks: bool) -> usize
     ensures count { λ r. ⌜ r ≡ run blanks (now (text .entry)) ⌝ }
     ensures whole { λ r. ⌜ Boundary (now (text .entry)) r ⌝ }

@@ -17,4 +17,4 @@ pub returns-else-reading-word : need.returns-else-reading-word
 returns-else-reading-word g c =
     let read = c .in-Continue-reading .ensures tt in
     let begins = subst (λ l. Begins (g .L·Label .text) l (c .in-Continue-reading .reading .label)) (c .as-bytes .ensures .value) (read .0) in
-    part-word (g .L·Label .text) (c .args .word .now) (g .L·Label·met .apart) _ _ begins (read .1) (c .if-reading-word .left)
+    part-word (g .L·Label .text) (c .args .word .now) (g .L·Label·met .unambiguous) _ _ begins (read .1) (c .if-reading-word .left)

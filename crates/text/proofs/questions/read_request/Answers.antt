@@ -16,8 +16,8 @@ returns-in-Break-c g c =
     wrong-more text bottom _ _ _ 3 _ (c .in-Continue-pc .ensures tt)
     (wrong-more text bottom _ _ _ 2 _ (c .in-Continue-a .ensures tt)
     (wrong-more text bottom _ _ _ 1 _ (c .in-Continue-b .ensures tt)
-    (wrong-here text bottom _ 0 _ (c .in-Break-c .ensures tt)))) in
-    rw (p .1, p .2) (rw (c .in-Some .ensures tt) (inr ((c .in-Some-operation-named .op, c .in-Some-operation-named .ensures tt), wrong)))
+    (wrong-here text _ 0 _ (c .in-Break-c .ensures tt)))) in
+    rw (p .1, p .2) (rw (c .in-Some .ensures tt .0) (inr ((c .in-Some-operation-named .op, c .in-Some-operation-named .ensures tt), wrong)))
 
 pub returns-in-Some-next-word : need.returns-in-Some-next-word
 returns-in-Some-next-word g c =
@@ -28,8 +28,8 @@ returns-in-Some-next-word g c =
     (wrong-more text bottom _ _ _ 2 _ (c .in-Continue-a .ensures tt)
     (wrong-more text bottom _ _ _ 1 _ (c .in-Continue-b .ensures tt)
     (wrong-more text bottom _ _ _ 0 _ (c .in-Continue-c .ensures tt)
-    (rw (c .in-Some-next-word .ensures tt) refl)))) in
-    rw (c .in-Some .ensures tt) (inr ((c .in-Some-operation-named .op, c .in-Some-operation-named .ensures tt), wrong))
+    (rw (c .in-Some-next-word .ensures tt .0) refl)))) in
+    rw (c .in-Some .ensures tt .0) (inr ((c .in-Some-operation-named .op, c .in-Some-operation-named .ensures tt), wrong))
 
 pub returns : need.returns
 returns g c =
@@ -41,4 +41,4 @@ returns g c =
     (given-more text bottom _ _ _ _ (c .in-Continue-a .ensures tt)
     (given-more text bottom _ _ _ _ (c .in-Continue-b .ensures tt)
     (given-more text bottom _ _ _ _ (c .in-Continue-c .ensures tt) last))) in
-    rw (c .in-Some .ensures tt) (c .in-Some-operation-named .ensures tt, given)
+    rw (c .in-Some .ensures tt .0) (c .in-Some-operation-named .ensures tt, given)

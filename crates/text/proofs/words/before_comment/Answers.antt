@@ -1,5 +1,4 @@
 use mathlib.Core.Path.{_∙_}
-use native.Mathlib.Omega.{arith}
 use lib.Dec.{lit<}
 use Rattle.std.proofs.shelf.Patterns.{find-char}
 use Rattle.std.specs.declared.option.Option.the-variants.{Some, None}

@@ -24,7 +24,7 @@ pub returns-in-Break-right : need.returns-in-Break-right
 returns-in-Break-right g c =
     let left = c .in-Continue-left .ensures tt in
     let right = subst (λ l. Reads (g .B·Label .text) l None) (c .split-at .ensures .back) (c .in-Break-right .ensures tt) in
-    rw (c .from-residual-in-Break-right .ensures) (no-right _ _ (g .A·Label·met .apart) _ _ _ (left .0) (left .1) right)
+    rw (c .from-residual-in-Break-right .ensures) (no-right _ _ (g .A·Label·met .unambiguous) _ _ _ (left .0) (left .1) right)
 
 module _ (g : given.Over) (c : need.In-Continue-right g) where
   abbrev text : Pair (g .A .Denot) (g .B .Denot) → List ℕ
