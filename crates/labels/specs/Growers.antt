@@ -2,7 +2,8 @@
 use mathlib.Core.Path.{_≡_}
 use mathlib.Core.Bool.{cond}
 use mathlib.Core.List.{List, [], _∷_}
-use Prim.Native.Nat.{ℕ, _+_, _/_, _%_, _<_}
+use mathlib.Core.Logic.{_⊎_}
+use Prim.Native.Nat.{ℕ, _+_, _/_, _%_, _^_, _<_}
 use lib.Bits.{bitOr, or-lt}
 use lib.Dec.{eqb, ltb, lit<}
 use Rattle.std.specs.declared.option.Option.{Option}
@@ -10,7 +11,19 @@ use Rattle.std.specs.declared.option.Option.the-variants.{Some, None}
 use Rattle.labels.specs.Kind.{Kind}
 use Rattle.labels.specs.declared.growers.mask.Growers.{Growers}
 
--- One set is in another if with its members the other has none more.
+-- grower g is in the set: bit g of the mask is 1
+abbrev pub In : ℕ → Growers → Type 0
+In g a = a .mask / 2 ^ g % 2 ≡ 1
+
+-- every grower in a is in b
+abbrev pub Within : Growers → Growers → Type 0
+Within a b = (g : ℕ) → In g a → In g b
+
+-- r has the growers of a and of b, and no other
+abbrev pub Unites : Growers → Growers → Growers → Type 0
+Unites a b r = (g : ℕ) → (In g r → In g a ⊎ In g b) × (In g a → In g r) × (In g b → In g r)
+
+-- by masks: a is within b if adding a's growers to b adds none
 abbrev pub grower-sets : Kind Growers
 grower-sets = record {
   below = λ a b. eqb (bitOr (a .mask) (b .mask)) (b .mask);

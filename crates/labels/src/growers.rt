@@ -1,7 +1,9 @@
+ghost use mathlib.Core.Bool.{true};
 ghost use mathlib.Core.Path.{_≡_};
-ghost use Prim.Native.Nat.{_<_};
+ghost use Prim.Native.Nat.{ℕ, _<_};
 ghost use lib.Bits.{bitOr};
-ghost use Rattle.labels.specs.Growers.{grower-sets, grower-text, hex, HexDigit};
+ghost use lib.Dec.{eqb};
+ghost use Rattle.labels.specs.Growers.{grower-sets, grower-text, In, Within, Unites, hex, HexDigit};
 use crate::Label;
 use crate::Reading;
 use std::fmt;
@@ -15,15 +17,24 @@ pub impl Label for Growers as GrowersLabel {
 
     ghost text = { grower-text };
 
-    fn flows_to(self, other: Growers) -> bool {
-        self.mask | other.mask == other.mask
+    fn flows_to(self, other: Growers) -> bool
+        ensures below { λ r. ⌜ r ≡ grower-sets .below self other ⌝ }
+        ensures inclusion { λ r. ⌜ (r ≡ true → Within self other) × (Within self other → r ≡ true) ⌝ }
+    {
+        included(self.mask, other.mask)
     }
 
-    fn bottom() -> Growers {
+    fn bottom() -> Growers
+        ensures bottom { λ r. ⌜ r ≡ grower-sets .bottom ⌝ }
+        ensures empty { λ r. ⌜ ((g : ℕ) → In g r → ⊥) ⌝ }
+    {
         Growers { mask: 0 }
     }
 
-    fn join(self, other: Growers) -> Growers {
+    fn join(self, other: Growers) -> Growers
+        ensures join { λ r. ⌜ r ≡ grower-sets .join self other ⌝ }
+        ensures union { λ r. ⌜ Unites self other r ⌝ }
+    {
         Growers {
             mask: union(self.mask, other.mask),
         }
@@ -50,6 +61,13 @@ pub impl Label for Growers as GrowersLabel {
         let d = hex_digit(self.mask % 16);
         write!(f, "{a}{b}{c}{d}")
     }
+}
+
+// Whether adding the members of `a` to `b` adds none.
+fn included(a: u16, b: u16) -> bool
+    ensures { λ r. ⌜ r ≡ eqb (bitOr a b) b ⌝ }
+{
+    union(a, b) == b
 }
 
 // The members of either set.
