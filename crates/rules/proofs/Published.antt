@@ -19,8 +19,8 @@ module _ {L : Type 0} (below : L → L → Bool) (bottom : L) (join : L → L �
 
   each : (op : Opcode) (p a b c : L) → by-rows kind published-rows (record { op = op; pc = p; a = a; b = b; c = c }) ≡ published-row kind op p a b c
   each Push p a b c = simp (left, right)
-  each Pop p a b c = simp (left, right)
-  each Noop p a b c = simp (left, right)
+  each Pop p a b c = simp left
+  each Noop p a b c = simp left
   each Add p a b c = simp (left, right)
   each Sub p a b c = simp (left, right)
   each Less p a b c = simp (left, right)
