@@ -15,6 +15,7 @@ module _ {L : Type 0} (kind : Kind L) where
   abbrev pub DirectFaithful : Direct → Table L → Type 0
   DirectFaithful policy t = Same (published kind) t
 
+  -- asked, it works the row out and keeps what it holds
   abbrev pub DirectAsked : Direct → Request L → Option (Verdict L) → Direct → Type 0
   DirectAsked before request answer after = (answer ≡ published kind request) × (after ≡ before)
 

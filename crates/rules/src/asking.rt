@@ -1,6 +1,7 @@
-// A request put to a new policy of each sort: the published verdict.
-ghost use mathlib.Core.Path.{_≡_};
-ghost use Rattle.rules.specs.Tables.{published};
+// Each policy asked through the trait alone: that the trait's truth and effect are the ones named for the policy.
+ghost use Rattle.rules.specs.Policies.{DirectFaithful, DirectAsked, CachedFaithful, CachedAsked};
+ghost use Rattle.rules.specs.Rows.{RowsFaithful, RowsAsked};
+ghost use Rattle.rules.specs.Tables.{Obeys};
 use crate::Cached;
 use crate::CachedPolicy;
 use crate::Direct;
@@ -12,30 +13,33 @@ use crate::RowTablePolicy;
 use crate::Verdict;
 use labels::Label;
 
-pub fn ask_direct<L: Label>(request: Request<L>) -> Option<Verdict<L>>
-    ensures { λ r. ⌜ r ≡ published (L·Label .kind) request ⌝ }
+pub fn ask_direct<L: Label>(policy: &mut Direct, request: Request<L>) -> Option<Verdict<L>>
+    ensures obeys { λ r. ⌜ Obeys (DirectFaithful (L·Label .kind)) (now (policy .entry)) request r (now (policy .exit)) ⌝ }
+    ensures asked { λ r. ⌜ DirectAsked (L·Label .kind) (now (policy .entry)) request r (now (policy .exit)) ⌝ }
 {
-    ask::<Direct, L>(Direct::new::<L>(), request)
+    ask::<Direct, L>(policy, request)
 }
 
-pub fn ask_row_table<L: Label>(request: Request<L>) -> Option<Verdict<L>>
-    ensures { λ r. ⌜ r ≡ published (L·Label .kind) request ⌝ }
+pub fn ask_row_table<L: Label>(policy: &mut RowTable, request: Request<L>) -> Option<Verdict<L>>
+    ensures obeys { λ r. ⌜ Obeys (RowsFaithful (L·Label .kind)) (now (policy .entry)) request r (now (policy .exit)) ⌝ }
+    ensures asked { λ r. ⌜ RowsAsked (L·Label .kind) (now (policy .entry)) request r (now (policy .exit)) ⌝ }
 {
-    ask::<RowTable, L>(RowTable::new::<L>(), request)
+    ask::<RowTable, L>(policy, request)
 }
 
-// A cache over a cache.
-pub fn ask_cached<L: Label>(request: Request<L>) -> Option<Verdict<L>>
-    ensures { λ r. ⌜ r ≡ published (L·Label .kind) request ⌝ }
+pub fn ask_cached<P: Policy<L>, L: Label>(
+    policy: &mut Cached<P, L>,
+    request: Request<L>,
+) -> Option<Verdict<L>>
+    ensures obeys { λ r. ⌜ Obeys (CachedFaithful (P·Policy .faithful)) (now (policy .entry)) request r (now (policy .exit)) ⌝ }
+    ensures asked { λ r. ⌜ CachedAsked (P·Policy .asked) (now (policy .entry)) request r (now (policy .exit)) ⌝ }
 {
-    let below = Cached::new(RowTable::new::<L>());
-    ask::<Cached<Cached<RowTable, L>, L>, L>(Cached::new(below), request)
+    ask::<Cached<P, L>, L>(policy, request)
 }
 
-fn ask<P: Policy<L> + Drop, L: Label>(policy: P, request: Request<L>) -> Option<Verdict<L>>
-    requires { ⌜ P·Policy .faithful policy (published (L·Label .kind)) ⌝ }
-    ensures { λ r. ⌜ r ≡ published (L·Label .kind) request ⌝ }
+fn ask<P: Policy<L>, L: Label>(policy: &mut P, request: Request<L>) -> Option<Verdict<L>>
+    ensures obeys { λ r. ⌜ Obeys (P·Policy .faithful) (now (policy .entry)) request r (now (policy .exit)) ⌝ }
+    ensures asked { λ r. ⌜ P·Policy .asked (now (policy .entry)) request r (now (policy .exit)) ⌝ }
 {
-    let mut policy = policy;
     policy.rule(request)
 }

@@ -1,10 +1,11 @@
 -- Reading a question word by word. Assumes nothing.
 use mathlib.Core.List.{List, [], _∷_, _++_, append-nil}
 use mathlib.Core.Logic.{inl, inr}
-use mathlib.Core.Path.{_≡_, refl, sym, ap, subst, _∙_}
+use mathlib.Core.Path.{_≡_, sym, ap, subst, _∙_}
 use Prim.Native.Nat.{ℕ, suc}
 use native.Mathlib.Omega.{arith}
 use lib.ListN.{length, length-append}
+use Rattle.std.proofs.shelf.Lists.{nil-from-length}
 use Rattle.std.specs.declared.option.Option.the-variants.{Some, None}
 use Rattle.labels.specs.Text.{PrefixFree, Begins}
 use Rattle.text.specs.Questions.{WrongLabel, Given, Taken, FirstWrong}
@@ -15,11 +16,7 @@ use Rattle.text.specs.declared.questions.Fault.{Fault}
 
 module _ {L : Type 0} (text : L → List ℕ) (word : List ℕ) where
   pub whole-word : (a : L) (n : ℕ) → Begins text word a → n ≡ length (text a) → n ≡ length word → Names text word (Some a)
-  whole-word a n (rest, e) size all = e ∙ ap (λ l. text a ++ l) (none rest (omega (arith, ap length e ∙ length-append (text a) rest))) ∙ append-nil (text a)
-    where
-      none : (l : List ℕ) → length l ≡ 0 → l ≡ []
-      none [] e = refl
-      none (x ∷ l) e = absurd (omega arith)
+  whole-word a n (rest, e) size all = e ∙ ap (λ l. text a ++ l) (nil-from-length rest (omega (arith, ap length e ∙ length-append (text a) rest))) ∙ append-nil (text a)
 
   pub no-word : ((a : L) → Begins text word a → ⊥) → Names text word None
   no-word none a e = none a ([], e ∙ sym (append-nil (text a)))

@@ -8,7 +8,7 @@ use native.Mathlib.Numerals.{add-one}
 use native.Mathlib.Omega.{arith}
 use lib.ListN.{length, getD, take, drop}
 use lib.Seq.{drop-cons}
-use Rattle.std.proofs.shelf.Lists.{drop-all}
+use Rattle.std.proofs.shelf.Lists.{drop-all, nil-from-length}
 use Rattle.std.proofs.shelf.Tests.{cases-bool, eq-eqb, ne-eqb}
 use Rattle.std.proofs.shelf.Text.{boundary-start, boundary-end, boundary-before-ascii, boundary-after-ascii}
 use Rattle.std.proofs.str.Laws.{order}
@@ -115,10 +115,6 @@ word-taken : (bs : List ℕ) → word bs ≡ take (run false bs) bs
 word-taken [] = refl
 word-taken (b ∷ bs) = ⊎-elim (λ e. rw e refl) (λ e. rw e (ap (λ w. b ∷ w) (word-taken bs))) (cases-bool (blank b))
 
-none : (rest : List ℕ) → length rest ≡ 0 → words rest ≡ []
-none [] e = refl
-none (b ∷ rest) e = absurd (omega arith)
-
 first : (bs : List ℕ) → 0 < length bs → blank (getD bs 0 0) ≡ false → words bs ≡ take (run false bs) bs ∷ words (drop (run false bs) bs)
 first [] h e = absurd (omega arith)
 first (b ∷ bs) h e = rw (← word-taken (b ∷ bs)) (rw e (ap (λ ws. (b ∷ word bs) ∷ ws) (words-on bs)))
@@ -144,7 +140,7 @@ module _ (line rest : List ℕ) (n : ℕ) (blanks : n ≡ run true line) (back :
   skipped = words-skip line ∙ ap words (sym here)
 
   pub no-words : length rest ≡ 0 → words line ≡ []
-  no-words e = skipped ∙ none rest e
+  no-words e = skipped ∙ ap words (nil-from-length rest e)
 
   module _ (m : ℕ) (front more : List ℕ) (is : m ≡ run false rest) (taken : front ≡ take m rest) (dropped : more ≡ drop m rest) where
     pub next : 0 < length rest → words line ≡ front ∷ words more
