@@ -1,7 +1,8 @@
-// Each policy asked through the trait alone: that the trait's truth and effect are the ones named for the policy.
+// Policies seen through the trait alone: its truth and its effect are the ones that are named for each policy.
+ghost use mathlib.Core.Path.{_≡_};
 ghost use Rattle.rules.specs.Policies.{DirectFaithful, DirectAsked, CachedFaithful, CachedAsked};
 ghost use Rattle.rules.specs.Rows.{RowsFaithful, RowsAsked};
-ghost use Rattle.rules.specs.Tables.{Obeys};
+ghost use Rattle.rules.specs.Tables.{Obeys, published};
 use crate::Cached;
 use crate::CachedPolicy;
 use crate::Direct;
@@ -42,4 +43,12 @@ fn ask<P: Policy<L>, L: Label>(policy: &mut P, request: Request<L>) -> Option<Ve
     ensures asked { λ r. ⌜ P·Policy .asked (now (policy .entry)) request r (now (policy .exit)) ⌝ }
 {
     policy.rule(request)
+}
+
+// The policy itself, which is true to the published rows.
+pub(crate) fn true_to_published<P: Policy<L>, L: Label>(policy: P) -> P
+    requires { ⌜ P·Policy .faithful policy (published (L·Label .kind)) ⌝ }
+    ensures { λ r. ⌜ r ≡ policy ⌝ }
+{
+    policy
 }

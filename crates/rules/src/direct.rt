@@ -5,6 +5,7 @@ use crate::Opcode;
 use crate::Policy;
 use crate::Request;
 use crate::Verdict;
+use crate::asking::true_to_published;
 use labels::Label;
 
 // The policy that works the published rows out.
@@ -16,7 +17,7 @@ impl Direct {
     pub fn new<L: Label>() -> Direct
         ensures { λ r. ⌜ DirectFaithful (L·Label .kind) r (published (L·Label .kind)) ⌝ }
     {
-        Direct {}
+        true_to_published::<Direct, L>(Direct {})
     }
 }
 

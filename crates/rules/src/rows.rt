@@ -5,6 +5,7 @@ use crate::Opcode;
 use crate::Policy;
 use crate::Request;
 use crate::Verdict;
+use crate::asking::true_to_published;
 use labels::Label;
 
 // A set of the letters of a request's labels: A, B, C, and P for the program counter's. It means their join.
@@ -35,9 +36,8 @@ impl RowTable {
         ensures rows { λ r. ⌜ r .rows ≡ published-rows ⌝ }
         ensures faithful { λ r. ⌜ RowsFaithful (L·Label .kind) r (published (L·Label .kind)) ⌝ }
     {
-        RowTable {
-            rows: published_rows(),
-        }
+        let rows = published_rows();
+        true_to_published::<RowTable, L>(RowTable { rows })
     }
 }
 
