@@ -1,0 +1,10 @@
+pub mod Numbers
+pub mod Steps
+pub mod Stations
+pub mod Lists
+pub mod Observer
+pub mod Laws
+pub mod Worked
+pub mod WorkedTests
+pub mod WorkedCalls
+pub mod WorkedPair
