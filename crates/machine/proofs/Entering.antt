@@ -1,4 +1,4 @@
--- What enters change, and calls that change nothing. Assumes nothing.
+-- What an enter changes, and that a refused call changes nothing. Assumes nothing.
 use mathlib.Core.Path.{_≡_, refl, sym, ap, _∙_, subst}
 use mathlib.Core.Bool.{Bool, true, cond}
 use mathlib.Core.List.{List, [], _∷_}
@@ -7,23 +7,13 @@ use lib.ListN.{set}
 use Rattle.std.specs.declared.option.Option.{Option}
 use Rattle.std.specs.declared.option.Option.the-variants.{Some, None}
 use Rattle.labels.specs.Kind.{Kind}
-use Rattle.machine.specs.Laws.{LookingChangesNothing, RefusedChangesNothing, EnteredIsShown}
+use Rattle.machine.specs.Laws.{RefusedChangesNothing, EnteredIsShown}
 use Rattle.machine.specs.Stations.{Station, idle, running, shut, Call, enter, look, start, go, next-command, Answer, granted, shows, took, found, refused, fitting, memory-of, misfit, entered, looked, reply, effect}
 use Rattle.machine.specs.Steps.{Setup, Kept, element}
 use Rattle.machine.specs.declared.answers.Part.{Part}
 use Rattle.machine.specs.declared.answers.Refusal.{Refusal}
 use Rattle.machine.specs.declared.answers.Refusal.the-variants.{Length, Cell, Clearance}
 use Rattle.machine.specs.declared.parts.Labelled.{Labelled}
-
-fitting-same : {A : Type 0} (x : Option Part) (a : A) → fitting x (λ _. a) a ≡ a
-fitting-same None a = refl
-fitting-same (Some part) a = refl
-
-pub looking-changes-nothing : {L : Type 0} (kind : Kind L) → LookingChangesNothing kind
-looking-changes-nothing kind = record {
-  looks = λ setup st len cell clearance. fitting-same (misfit (setup .sizes) (look len cell clearance)) st;
-  questions = λ setup st len from clearance. fitting-same (misfit (setup .sizes) (next-command len from clearance)) st;
-}
 
 module _ {L : Type 0} where
   abbrev Refuses : Answer L → Type 0

@@ -1,7 +1,0 @@
-use mathlib.Core.Path.{refl}
-use Rattle.std.specs.shelf.Signed.{wrapped}
-use Rattle.machine.proofs.theorems.worked_tests.Needs as need
-
-pub returns : need.returns
-unfolding wrapped
-returns c = refl
