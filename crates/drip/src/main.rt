@@ -1,4 +1,6 @@
 // drip: the installer's program.
+#![tactic(auto)]
+
 mod command;
 mod complaint;
 mod failure;

@@ -1,2 +1,3 @@
 pub mod Joins
 pub mod Members
+pub mod Texts

@@ -4,4 +4,4 @@ pub mod Level
 pub mod Growers
 pub mod Pair
 pub mod Masks
-pub mod Texts
+pub mod PrefixFree

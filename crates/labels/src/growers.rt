@@ -1,7 +1,7 @@
 ghost use Rattle.std.specs.Prelude.{◌≡◌, ℕ, ◌<◌, true, ◌==◌, bit_or};
 ghost use Rattle.labels.specs.Growers.{grower_sets, grower_text, In, Within, Unites, hex, HexDigit};
 ghost use Rattle.labels.specs.Masks.{grower_laws};
-ghost use Rattle.labels.specs.Texts.{growers_prefix_free};
+ghost use Rattle.labels.specs.PrefixFree.{growers_prefix_free};
 
 use crate::{Label, Reading};
 use std::fmt;

@@ -1,4 +1,6 @@
 // Kinds of label: who may know a number. Each kind has an order, a least label, a join and a text, and proves their laws.
+#![tactic(auto)]
+
 ghost use Rattle.std.specs.Prelude.{◌≡◌, ℕ, true, List, Some};
 ghost use Rattle.std.specs.Fmt.{WritesOnOk};
 ghost use Rattle.labels.specs.Kind.{Kind, Lawful};
@@ -68,7 +70,7 @@ impl<L: Label> fmt::Display for Shown<L> {
 
 // Whether two labels of any kind are the same, by the order both ways.
 pub fn same<L: Label>(a: L, b: L) -> bool
-    ensures { ((result ≡ true → a ≡ b)) × ((a ≡ b → result ≡ true)) }
+    ensures { (result ≡ true → a ≡ b) × (a ≡ b → result ≡ true) }
 {
     a.flows_to(b) && b.flows_to(a)
 }

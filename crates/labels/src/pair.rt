@@ -1,5 +1,5 @@
 ghost use Rattle.labels.specs.Pair.{pairs, pair_text};
-ghost use Rattle.labels.specs.Texts.{pair_prefix_free};
+ghost use Rattle.labels.specs.PrefixFree.{pair_prefix_free};
 ghost use Rattle.std.proofs.Common.{rules};
 
 use crate::{Label, Reading};

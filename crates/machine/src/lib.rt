@@ -1,4 +1,6 @@
 // What a station is made of and what it means: labelled numbers, stack entries, operations, answers; and the theorems about them.
+#![tactic(auto)]
+
 mod answers;
 mod parts;
 mod theorems;

@@ -1,4 +1,6 @@
 // Rule policies: which labels an operation gives its results and the program counter, or that it is forbidden.
+#![tactic(auto)]
+
 ghost use Rattle.std.specs.Prelude.{◌≡◌, true, Option};
 ghost use Rattle.rules.specs.declared.Request.{Request};
 ghost use Rattle.rules.specs.declared.Verdict.{Verdict};
@@ -67,7 +69,7 @@ pub trait Policy<L: Label> {
 impl<L: Label> Request<L> {
     // Whether two requests are the same.
     pub fn same_as(self, other: Request<L>) -> bool
-        ensures { ((result ≡ true → self ≡ other)) × ((self ≡ other → result ≡ true)) }
+        ensures { (result ≡ true → self ≡ other) × (self ≡ other → result ≡ true) }
     {
         self.op as u8 == other.op as u8
             && same(self.pc, other.pc)

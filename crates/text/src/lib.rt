@@ -1,4 +1,6 @@
 // What installers write and read: the words of a line, the names of operations, rule questions and their answers.
+#![tactic(auto)]
+
 mod operations;
 mod questions;
 mod words;

@@ -17,7 +17,7 @@ loop-seen-preserved g c =
     let stack = c.args.stack.now in
     let i = c.args.depth - 1 - c.loop-seen.seen in
     let top = newest_read stack (c.args.depth - c.loop-seen.seen) i c.index-stack-depth.result (omega arith) (omega arith) c.index-stack-depth.is in
-    let here = ap numbers_on_top (top ∙ ap (λ e. e ∷ newest i stack) c.in-default.is) in
+    let here = ap numbers_on_top (top ∙ ap (λ e. e ∷ newest i stack) c.in_default.is) in
     let left : i ≡ c.args.depth - (c.loop-seen.seen + 1) = omega arith in
     let under = ap (λ n. numbers_on_top (newest n stack)) left in
     (omega arith, omega arith)

@@ -5,7 +5,7 @@ use Rattle.steps.proofs.walks.insert_under.Goals as goal
 pub returns : goal.returns
 returns g c =
     let i = c.args.depth - c.args.count in
-    let copied = c.copy-within.ensures.after in
+    let copied = c.copy_within.ensures.after in
     let written = c.put.ensures in
     let under = under_at c.args.part.now i c.args.count c.args.element (omega arith) in
     let moved : c.args.depth - i ≡ c.args.count = omega arith in

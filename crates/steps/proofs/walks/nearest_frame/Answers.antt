@@ -16,7 +16,7 @@ pub loop-index-preserved : goal.loop-index-preserved
 loop-index-preserved g c then =
     let i = c.loop-index.index - 1 in
     let top = newest_read c.args.stack.now c.loop-index.index i c.index-stack-index.result (omega arith) (omega arith) c.index-stack-index.is in
-    c.loop-index.invariant then ∙ ap (λ s. nearest_frame s then) (top ∙ ap (λ e. e ∷ newest i c.args.stack.now) c.in-default.is)
+    c.loop-index.invariant then ∙ ap (λ s. nearest_frame s then) (top ∙ ap (λ e. e ∷ newest i c.args.stack.now) c.in_default.is)
 
 pub returns : goal.returns
 returns g c then =

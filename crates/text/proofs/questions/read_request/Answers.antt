@@ -6,37 +6,37 @@ use Rattle.text.specs.declared.questions.Fault.{Fault}
 use Rattle.text.proofs.ByWord.{given_more, wrong_more, wrong_here}
 use Rattle.text.proofs.questions.read_request.Given as given
 use Rattle.text.proofs.questions.read_request.Goals as goal
-use Rattle.text.proofs.questions.read_request.Goals.{In-ok-b}
+use Rattle.text.proofs.questions.read_request.Goals.{In_ok-b}
 
 -- a wrong word where the last label is due, or after it, is the line's first
-wrong-from-last : (g : given.Over) (c : In-ok-b g) (f : Fault) → WrongLabel g.L.Label.text (words c.in-ok-b.rest.now) 1 f → Wrong g.L.Label.text (words c.args.line.now) f
-wrong-from-last g c f wrong =
+wrong_from_last : (g : given.Over) (c : In_ok-b g) (f : Fault) → WrongLabel g.L.Label.text (words c.in_ok-b.rest.now) 1 f → Wrong g.L.Label.text (words c.args.line.now) f
+wrong_from_last g c f wrong =
     let text = g.L.Label.text in
     let bottom = g.L.Label.kind.bottom in
     let labels =
-    wrong_more text bottom _ _ _ 3 f c.in-ok-pc.ensures
-    (wrong_more text bottom _ _ _ 2 f c.in-ok-a.ensures
-    (wrong_more text bottom _ _ _ 1 f c.in-ok-b.ensures wrong)) in
-    rw c.in-Some.ensures.0 (inr ((c.in-Some-operation-named.op, c.in-Some-operation-named.ensures), labels))
+    wrong_more text bottom _ _ _ 3 f c.in_ok-pc.ensures
+    (wrong_more text bottom _ _ _ 2 f c.in_ok-a.ensures
+    (wrong_more text bottom _ _ _ 1 f c.in_ok-b.ensures wrong)) in
+    rw c.in-Some.ensures.0 (inr ((c.in-Some-operation_named.op, c.in-Some-operation_named.ensures), labels))
 
-pub returns-in-err-c : goal.returns-in-err-c
-returns-in-err-c g c =
-    let p = err_from_is_err_and c.from-residual-in-err-c.result c.from-residual-in-err-c.ensures.1 in
-    rw (p.1, p.2) (wrong-from-last g (goal.at.returns-in-err-c g c).In-ok-b _ (wrong_here g.L.Label.text _ 0 _ c.in-err-c.ensures))
+pub returns-in_err-c : goal.returns-in_err-c
+returns-in_err-c g c =
+    let p = err_from_is_err_and c.from_residual-in_err-c.result c.from_residual-in_err-c.ensures.1 in
+    rw (p.1, p.2) (wrong_from_last g (goal.at.returns-in_err-c g c).In_ok-b _ (wrong_here g.L.Label.text _ 0 _ c.in_err-c.ensures))
 
-pub returns-in-Some-next-word : goal.returns-in-Some-next-word
-returns-in-Some-next-word g c =
-    wrong-from-last g (goal.at.returns-in-Some-next-word g c).In-ok-b _
-    (wrong_more g.L.Label.text g.L.Label.kind.bottom _ _ _ 0 _ c.in-ok-c.ensures (rw c.in-Some-next-word.ensures.0 refl))
+pub returns-in-Some-next_word : goal.returns-in-Some-next_word
+returns-in-Some-next_word g c =
+    wrong_from_last g (goal.at.returns-in-Some-next_word g c).In_ok-b _
+    (wrong_more g.L.Label.text g.L.Label.kind.bottom _ _ _ 0 _ c.in_ok-c.ensures (rw c.in-Some-next_word.ensures.0 refl))
 
 pub returns : goal.returns
 returns g c =
     let text = g.L.Label.text in
     let bottom = g.L.Label.kind.bottom in
-    let last = subst (λ (l : List (List ℕ)). Given text bottom l []) (sym c.in-default-next-word.ensures) tt in
+    let last = subst (λ (l : List (List ℕ)). Given text bottom l []) (sym c.in_default-next_word.ensures) tt in
     let given =
-    given_more text bottom _ _ _ _ c.in-ok-pc.ensures
-    (given_more text bottom _ _ _ _ c.in-ok-a.ensures
-    (given_more text bottom _ _ _ _ c.in-ok-b.ensures
-    (given_more text bottom _ _ _ _ c.in-ok-c.ensures last))) in
-    rw c.in-Some.ensures.0 (c.in-Some-operation-named.ensures, given)
+    given_more text bottom _ _ _ _ c.in_ok-pc.ensures
+    (given_more text bottom _ _ _ _ c.in_ok-a.ensures
+    (given_more text bottom _ _ _ _ c.in_ok-b.ensures
+    (given_more text bottom _ _ _ _ c.in_ok-c.ensures last))) in
+    rw c.in-Some.ensures.0 (c.in-Some-operation_named.ensures, given)

@@ -4,4 +4,4 @@ use Rattle.labels.proofs.pair.PairLabel.write.Goals as goal
 
 pub returns : goal.returns
 returns g c =
-    writes_on_IsOk-append g.W.Write.write_str_gives _ _ _ _ _ _ _ (λ _. ap is_ok c.in-ok-write.was) c.write.ensures c.write-2.ensures
+    writes_on_IsOk-append g.W.Write.write_str_gives _ _ _ _ _ _ _ (λ _. ap is_ok c.in_ok-write.was) c.write.ensures c.write-2.ensures

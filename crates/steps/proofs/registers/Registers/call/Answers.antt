@@ -9,55 +9,55 @@ use Rattle.std.proofs.lemmas.Int.{ints, to_z-of_z}
 use Rattle.std.proofs.lemmas.Bool.{leb-true, leb-false}
 use Rattle.steps.proofs.registers.Registers.call.Goals as goal
 
-pub returns-in-err-a : goal.returns-in-err-a
-returns-in-err-a g c memory log room =
-    hands_on c.from-residual.ensures.1 (λ table true. true) (λ table true setup _ _. c.in-err-a.ensures _)
+pub returns-in_err-a : goal.returns-in_err-a
+returns-in_err-a g c memory log room =
+    hands_on c.from_residual.ensures.1 (λ table true. true) (λ table true setup _ _. c.in_err-a.ensures _)
 
-pub returns-then-not-has-numbers : goal.returns-then-not-has-numbers
-returns-then-not-has-numbers g c memory log room =
+pub returns-then-not-has_numbers : goal.returns-then-not-has_numbers
+returns-then-not-has_numbers g c memory log room =
     let under = newest (c.args.self.depth - 1) c.args.stack.now in
-    let counted = leb-false c.from-arguments.result (numbers_on_top under) (sym c.if-not-has-numbers.ensures) in
+    let counted = leb-false c.from-arguments.result (numbers_on_top under) (sym c.if-not-has_numbers.ensures) in
     let few : numbers_on_top under < c.args.count = omega arith in
     stops (λ table true. true)
-    (λ table true setup _ _. c.in-ok-a.ensures.1 _ ∙ takes_too_many c.args.count under _ few)
+    (λ table true setup _ _. c.in_ok-a.ensures.1 _ ∙ takes_too_many c.args.count under _ few)
 
-pub returns-in-err-verdict : goal.returns-in-err-verdict
-returns-in-err-verdict g c memory log room =
+pub returns-in_err-verdict : goal.returns-in_err-verdict
+returns-in_err-verdict g c memory log room =
     let under = newest (c.args.self.depth - 1) c.args.stack.now in
-    let counted = leb-true c.from-arguments.result (numbers_on_top under) (sym c.if-not-has-numbers.ensures) in
+    let counted = leb-true c.from-arguments.result (numbers_on_top under) (sym c.if-not-has_numbers.ensures) in
     let enough : c.args.count ≤ numbers_on_top under = omega arith in
-    hands_on c.from-residual-in-err-verdict.ensures.1 c.ask-one.ensures.still
+    hands_on c.from_residual-in_err-verdict.ensures.1 c.ask_one.ensures.still
     (λ table true setup _ _.
-    c.in-ok-a.ensures.1 _ ∙ takes_all c.args.count under _ enough ∙ c.in-err-verdict.ensures.holds table true _)
+    c.in_ok-a.ensures.1 _ ∙ takes_all c.args.count under _ enough ∙ c.in_err-verdict.ensures.holds table true _)
 
-pub insert-under-requires : goal.insert-under-requires
-insert-under-requires g c =
-    let a = c.in-ok-a.ensures in
+pub insert_under-requires : goal.insert_under-requires
+insert_under-requires g c =
+    let a = c.in_ok-a.ensures in
     let under = newest (c.args.self.depth - 1) c.args.stack.now in
-    let counted = leb-true c.from-arguments.result (numbers_on_top under) (sym c.if-not-has-numbers.ensures) in
+    let counted = leb-true c.from-arguments.result (numbers_on_top under) (sym c.if-not-has_numbers.ensures) in
     let le : c.args.self.depth - 1 ≤ length c.args.stack.now = omega arith in
     (omega arith, omega (arith, numbers_within under, length_newest (c.args.self.depth - 1) c.args.stack.now le))
 
 pub returns : goal.returns
 returns g c memory log room =
-    let a = c.in-ok-a.ensures in
+    let a = c.in_ok-a.ensures in
     let stack = c.args.stack.now in
     let depth = c.args.self.depth in
     let under = newest (depth - 1) stack in
-    let counted = leb-true c.from-arguments.result (numbers_on_top under) (sym c.if-not-has-numbers.ensures) in
+    let counted = leb-true c.from-arguments.result (numbers_on_top under) (sym c.if-not-has_numbers.ensures) in
     let enough : c.args.count ≤ numbers_on_top under = omega arith in
-    let fits : SFits w32 c.in-ok-a.a.value = search rules in
-    let place : to_z w64 (of_z w64 c.from.result) ≡ c.in-ok-a.a.value = omega (arith, ints) in
-    let fits_next : SFits w64 c.next-place.result = search rules in
-    let next = to_z-of_z w64 c.next-place.result fits_next ∙ c.next-place.ensures in
-    let frame : ℤ → Entry g.row.L.Denot = λ place. Frame (record { place = place; due = c.args.due; label = c.in-ok-verdict.verdict.result }) in
+    let fits : SFits w32 c.in_ok-a.a.value = search rules in
+    let place : to_z w64 (of_z w64 c.from.result) ≡ c.in_ok-a.a.value = omega (arith, ints) in
+    let fits_next : SFits w64 c.next_place.result = search rules in
+    let next = to_z-of_z w64 c.next_place.result fits_next ∙ c.next_place.ensures in
+    let frame : ℤ → Entry g.row.L.Denot = λ place. Frame (record { place = place; due = c.args.due; label = c.in_ok-verdict.verdict.result }) in
     let whole : depth ≡ depth - 1 + 1 = omega arith in
     let inserted =
-    ap (λ n. newest n c.insert-under.new.part) whole ∙ c.insert-under.ensures
-    ∙ ap (λ n. take n under ++ frame (to_z w64 (of_z w64 c.next-place.result)) ∷ drop n under) c.from-arguments.ensures
+    ap (λ n. newest n c.insert_under.new.part) whole ∙ c.insert_under.ensures
+    ∙ ap (λ n. take n under ++ frame (to_z w64 (of_z w64 c.next_place.result)) ∷ drop n under) c.from-arguments.ensures
     ∙ ap (λ place. take c.args.count under ++ frame place ∷ drop c.args.count under) next
     ∙ taken_onto c.args.count under (frame (c.args.self.pc +ℤ pos 1)) enough in
-    does c.goto.ensures c.ask-one.ensures.still c.requires.0 room
+    does c.goto.ensures c.ask_one.ensures.still c.requires.0 room
     (λ table true setup _ _.
     done_place place ∙ done_stack inserted
-    ∙ sym (a.1 _ ∙ takes_all c.args.count under _ enough ∙ c.in-ok-verdict.ensures.holds table true _))
+    ∙ sym (a.1 _ ∙ takes_all c.args.count under _ enough ∙ c.in_ok-verdict.ensures.holds table true _))

@@ -12,18 +12,18 @@ returns-then-self-stack g c memory log room =
     let full : setup.sizes.stack ≤ length (newest c.args.self.depth c.args.stack.now) = omega (arith, stacks, length_newest c.args.self.depth c.args.stack.now (omega arith)) in
     no_room _ _ _ _ full)
 
-pub returns-in-err-verdict : goal.returns-in-err-verdict
-returns-in-err-verdict g c memory log room =
-    hands_on c.from-residual.ensures.1 c.ask-one.ensures.still
+pub returns-in_err-verdict : goal.returns-in_err-verdict
+returns-in_err-verdict g c memory log room =
+    hands_on c.from_residual.ensures.1 c.ask_one.ensures.still
     (λ table true setup stacks _.
     with_room _ _ _ _ (omega (arith, stacks, length_newest c.args.self.depth c.args.stack.now (omega arith)))
-    ∙ c.in-err-verdict.ensures.holds table true _)
+    ∙ c.in_err-verdict.ensures.holds table true _)
 
 pub returns : goal.returns
 returns g c memory log room =
     let depth = c.args.self.depth in
     let stack = c.args.stack.now in
-    does c.next.ensures c.ask-one.ensures.still (omega arith) room
+    does c.next.ensures c.ask_one.ensures.still (omega arith) room
     (λ table true setup stacks _.
     done_stack (newest_put stack _ depth c.put.ensures (omega arith) (omega arith) ∙ ap (λ v. Number v ∷ newest depth stack) c.relabelled.ensures)
-    ∙ sym (with_room _ _ _ _ (omega (arith, stacks, length_newest depth stack (omega arith))) ∙ c.in-ok-verdict.ensures.holds table true _))
+    ∙ sym (with_room _ _ _ _ (omega (arith, stacks, length_newest depth stack (omega arith))) ∙ c.in_ok-verdict.ensures.holds table true _))

@@ -5,11 +5,11 @@ use Rattle.steps.specs.Operations.{round}
 use Rattle.steps.proofs.Stepping.{keeps, not_done_fits, steps_outside, steps_halt, steps_later, steps_tried}
 use Rattle.steps.proofs.registers.Registers.step.Goals as goal
 
-pub returns-in-default : goal.returns-in-default
-returns-in-default g c =
+pub returns-in_default : goal.returns-in_default
+returns-in_default g c =
     let fits : SFits w64 c.args.self.pc = search rules in
     let program = c.args.program.now in
-    let fetched = ap (λ place. at_place program place None Some) (sym (to_z-of_z w64 c.args.self.pc fits)) ∙ c.in-default.ensures in
+    let fetched = ap (λ place. at_place program place None Some) (sym (to_z-of_z w64 c.args.self.pc fits)) ∙ c.in_default.ensures in
     let before = round c.args.self c.args.memory.now c.args.stack.now c.args.log.now in
     record {
       comes_to = λ table true setup programs stacks logs. sym (steps_outside g.L.Label.kind table setup c.args.fuel before program programs fetched);

@@ -4,39 +4,39 @@ use Rattle.steps.specs.Walks.{newest}
 use Rattle.steps.proofs.Doing.{hands_on, does, done_memory, done_stack}
 use Rattle.steps.proofs.registers.Registers.store.Goals as goal
 
-pub returns-in-err-a : goal.returns-in-err-a
-returns-in-err-a g c log room =
-    hands_on c.from-residual.ensures.1 (λ table true. true) (λ table true setup _ _. c.in-err-a.ensures _)
+pub returns-in_err-a : goal.returns-in_err-a
+returns-in_err-a g c log room =
+    hands_on c.from_residual.ensures.1 (λ table true. true) (λ table true setup _ _. c.in_err-a.ensures _)
 
-pub returns-in-err-b : goal.returns-in-err-b
-returns-in-err-b g c log room =
-    hands_on c.from-residual-in-err-b.ensures.1 (λ table true. true)
-    (λ table true setup _ _. c.in-ok-a.ensures.1 _ ∙ c.in-err-b.ensures _)
+pub returns-in_err-b : goal.returns-in_err-b
+returns-in_err-b g c log room =
+    hands_on c.from_residual-in_err-b.ensures.1 (λ table true. true)
+    (λ table true setup _ _. c.in_ok-a.ensures.1 _ ∙ c.in_err-b.ensures _)
 
-pub returns-in-err-index : goal.returns-in-err-index
-returns-in-err-index g c log room =
-    hands_on c.from-residual-in-err-index.ensures.1 (λ table true. true)
-    (λ table true setup _ _. c.in-ok-a.ensures.1 _ ∙ c.in-ok-b.ensures.1 _ ∙ c.in-err-index.ensures _)
+pub returns-in_err-index : goal.returns-in_err-index
+returns-in_err-index g c log room =
+    hands_on c.from_residual-in_err-index.ensures.1 (λ table true. true)
+    (λ table true setup _ _. c.in_ok-a.ensures.1 _ ∙ c.in_ok-b.ensures.1 _ ∙ c.in_err-index.ensures _)
 
-pub returns-in-err-verdict : goal.returns-in-err-verdict
-returns-in-err-verdict g c log room =
-    hands_on c.from-residual-in-err-verdict.ensures.1 c.ask.ensures.still
+pub returns-in_err-verdict : goal.returns-in_err-verdict
+returns-in_err-verdict g c log room =
+    hands_on c.from_residual-in_err-verdict.ensures.1 c.ask.ensures.still
     (λ table true setup _ _.
-    c.in-ok-a.ensures.1 _ ∙ c.in-ok-b.ensures.1 _ ∙ c.in-ok-index.ensures.2 _ ∙ c.in-err-verdict.ensures.holds table true _)
+    c.in_ok-a.ensures.1 _ ∙ c.in_ok-b.ensures.1 _ ∙ c.in_ok-index.ensures.2 _ ∙ c.in_err-verdict.ensures.holds table true _)
 
 pub returns : goal.returns
 returns g c log room =
-    let a = c.in-ok-a.ensures in
-    let b = c.in-ok-b.ensures in
-    let cell = c.in-ok-index.ensures in
+    let a = c.in_ok-a.ensures in
+    let b = c.in_ok-b.ensures in
+    let cell = c.in_ok-index.ensures in
     let memory = c.args.memory.now in
-    let value = c.in-ok-b.b.value at c.in-ok-verdict.verdict.result in
+    let value = c.in_ok-b.b.value at c.in_ok-verdict.verdict.result in
     let put = c.put.ensures in
     let labelled = c.relabelled.ensures in
-    let written : c.put.new.part ≡ set memory c.in-ok-index.field-0.index value = cc in
+    let written : c.put.new.part ≡ set memory c.in_ok-index.field-0.index value = cc in
     let under : c.args.self.depth - 2 ≡ c.args.self.depth - 1 - 1 = omega arith in
     does c.next.ensures c.ask.ensures.still (omega arith) room
     (λ table true setup _ _.
     done_memory (written ∙ ap (λ place. set_place memory place value) (sym cell.0))
     ∙ done_stack (ap (λ n. newest n c.args.stack.now) under)
-    ∙ sym (a.1 _ ∙ b.1 _ ∙ cell.2 _ ∙ c.in-ok-verdict.ensures.holds table true _))
+    ∙ sym (a.1 _ ∙ b.1 _ ∙ cell.2 _ ∙ c.in_ok-verdict.ensures.holds table true _))

@@ -40,7 +40,7 @@ pub returns-in-Call : goal.returns-in-Call
 returns-in-Call g c = tried_as g.L.Label.kind c.in-Call.is (c.call.ensures c.args.memory.now c.args.log.now c.requires.1.1)
 
 pub returns-in-Return : goal.returns-in-Return
-returns-in-Return g c = tried_as g.L.Label.kind c.in-Return.is (c.return-to-frame.ensures c.args.memory.now c.args.log.now c.requires.1.1)
+returns-in-Return g c = tried_as g.L.Label.kind c.in-Return.is (c.return_to_frame.ensures c.args.memory.now c.args.log.now c.requires.1.1)
 
 pub returns-in-Output : goal.returns-in-Output
 returns-in-Output g c = tried_as g.L.Label.kind c.in-Output.is (c.output.ensures c.args.memory.now)
