@@ -8,7 +8,8 @@ mod questions;
 
 use command::Command;
 use failure::Failure;
-use std::env;
+use std::process::ExitCode;
+use std::{env, io};
 
 const USAGE: &str =
     "drip answers for stations on a shared drip line: whose readings may reach which valve.
@@ -36,9 +37,17 @@ What is wrong is told on standard error as FILE:LINE: what is wrong, and what wa
 expected; LINE is 0 where it is in no line of FILE. The status is then 1.
 ";
 
-fn main(rt: HostRuntime) -> Result<(), Failure> {
+fn main(rt: HostRuntime) -> Result<ExitCode, io::Error> {
+    match run(&rt) {
+        Ok(()) => Ok(ExitCode::SUCCESS),
+        Err(Failure::Told) => Ok(ExitCode::FAILURE),
+        Err(Failure::Io(e)) => Err(e),
+    }
+}
+
+fn run(rt: &HostRuntime) -> Result<(), Failure> {
     let mut words = Vec::new(rt.alloc());
-    for word in env::args(&rt)?.skip(1) {
+    for word in env::args(rt)?.skip(1) {
         words.push(word)?;
     }
     match Command::parse(rt.alloc(), words.as_slice()) {
@@ -46,7 +55,7 @@ fn main(rt: HostRuntime) -> Result<(), Failure> {
             rt.print(USAGE)?;
             Ok(())
         }
-        Ok(Command::Rules(asked)) => questions::answer(&rt, asked),
+        Ok(Command::Rules(asked)) => questions::answer(rt, asked),
         Err(misuse) => {
             eprintln!(rt; "{misuse}")?;
             Err(Failure::Told)
