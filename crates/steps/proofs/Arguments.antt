@@ -1,5 +1,5 @@
 -- The numbers that a call takes.
-use Rattle.std.proofs.Common.{◌≡◌, ℕ, zero, suc, ◌<◌, ◌≤◌, List, [], ◌∷◌, ◌++◌, length, take, drop, sym, refl, ap, ◌∙◌, arith}
+use Rattle.std.proofs.Common.{◌≡◌, ℕ, zero, suc, ◌<◌, ◌≤◌, List, [], ◌∷◌, ◌++◌, length, take, drop, refl, ap, arith}
 use Rattle.machine.specs.Steps.{Outcome, stopped, taking_all, numbers_onto}
 use Rattle.machine.specs.declared.answers.Stop.TheVariants.{TooFewNumbers}
 use Rattle.machine.specs.declared.parts.Entry.{Entry}

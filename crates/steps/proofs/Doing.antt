@@ -1,10 +1,10 @@
 -- How an operation in code comes to what is defined: it was stopped, or it was done.
-use Rattle.std.proofs.Common.{◌≡◌, ℕ, ◌<◌, ◌≤◌, Bool, true, false, ltb, List, length, ℤ, IsErrAnd, Ok, Err, Result, sym, refl, ap, ◌∙◌, subst}
+use Rattle.std.proofs.Common.{◌≡◌, ℕ, ◌<◌, ◌≤◌, ltb, List, length, ℤ, IsErrAnd, Ok, Err, Result, sym, refl, ap, ◌∙◌, subst}
 use Rattle.std.proofs.lemmas.Result.{err_from_is_err_and}
 use Rattle.std.proofs.lemmas.Bool.{lt-ltb, le-ltb}
 use Rattle.labels.specs.Kind.{Kind}
 use Rattle.rules.specs.Tables.{Table}
-use Rattle.machine.specs.Steps.{Setup, Kept, Round, Outcome, stopped, done, provided, tried}
+use Rattle.machine.specs.Steps.{Setup, Round, Outcome, stopped, done, provided, tried}
 use Rattle.machine.specs.declared.answers.Stop.{Stop}
 use Rattle.machine.specs.declared.parts.Entry.{Entry}
 use Rattle.machine.specs.declared.parts.Labelled.{Labelled}

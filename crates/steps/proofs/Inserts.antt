@@ -1,5 +1,5 @@
 -- An element put under the newest k of the first n: what the copy and the write leave.
-use Rattle.std.proofs.Common.{◌≡◌, ℕ, zero, suc, ◌+◌, ◌-◌, ◌<◌, ◌≤◌, List, [], ◌∷◌, ◌++◌, reverse, length, get_or, take, drop, set, sym, refl, ap, ◌∙◌, arith}
+use Rattle.std.proofs.Common.{◌≡◌, ℕ, ◌+◌, ◌<◌, ◌≤◌, List, [], ◌∷◌, ◌++◌, reverse, length, get_or, take, drop, set, sym, ap, ◌∙◌, arith}
 use mathlib.Core.List.{reverse-cons}
 use lib.Seq.{paste}
 use Rattle.std.proofs.lemmas.List.{append_assoc, length-append, length-reverse, length-take-le, length-drop, take-append-drop, take-take, drop-take, take_more, take_at, drop_at, set_at, reverse-append}

@@ -1,6 +1,6 @@
 -- The first elements of a lent part, the newest first, as the code reads and writes them.
-use Rattle.std.proofs.Common.{◌≡◌, ℕ, ◌+◌, ◌<◌, ◌≤◌, List, [], ◌∷◌, ◌++◌, reverse, length, get_or, take, set, sym, refl, ap, ◌∙◌, arith}
-use Rattle.std.proofs.lemmas.List.{length-reverse, length-take-le, take_more, take_more_set, take-set-le, reverse-append}
+use Rattle.std.proofs.Common.{◌≡◌, ℕ, ◌+◌, ◌<◌, ◌≤◌, List, [], ◌∷◌, ◌++◌, reverse, length, get_or, take, set, sym, ap, ◌∙◌}
+use Rattle.std.proofs.lemmas.List.{length-reverse, length-take-le, take_more, take_more_set, reverse-append}
 use Rattle.steps.specs.Walks.{newest}
 
 module _ {A : Type 0} where

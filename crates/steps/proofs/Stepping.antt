@@ -2,7 +2,7 @@
 use Rattle.std.proofs.Common.{◌≡◌, ℕ, zero, suc, ◌<◌, true, false, cond, List, Some, None, refl, ap, ◌∙◌, arith}
 use Rattle.labels.specs.Kind.{Kind}
 use Rattle.rules.specs.Tables.{Table}
-use Rattle.machine.specs.Steps.{Setup, Round, Outcome, later, stopped, at_place, halts, halted, with_fuel, tried, attempt, step}
+use Rattle.machine.specs.Steps.{Setup, Round, later, stopped, at_place, halts, halted, with_fuel, tried, attempt, step}
 use Rattle.machine.specs.declared.answers.Stop.TheVariants.{OutsideProgram}
 use Rattle.machine.specs.declared.parts.Operation.{Operation}
 use Rattle.steps.specs.Steps.{NotDone, OnlyDoneChanges, DoneFits}

@@ -1,7 +1,7 @@
 // The operations that make one number of two.
 ghost use Rattle.std.specs.Prelude.{◌≡◌, pos, ◌+ℤ◌};
 ghost use Rattle.machine.specs.Steps.{branch as branched};
-ghost use Rattle.steps.specs.Operations.{InProgram, applied, labelled as labelled-with, opcode_of};
+ghost use Rattle.steps.specs.Operations.{InProgram, applied, labelled as labelled_with, opcode_of};
 
 use machine::Labelled;
 use rules::Opcode;
@@ -27,7 +27,7 @@ impl Arithmetic {
 
     // What two numbers give, b beneath a, with this label.
     pub fn apply<L: Copy>(self, b: Labelled<L>, a: Labelled<L>, label: L) -> Labelled<L>
-        ensures { result ≡ labelled-with (applied self b.value a.value) label }
+        ensures { result ≡ labelled_with (applied self b.value a.value) label }
     {
         match self {
             Arithmetic::Add => Labelled {

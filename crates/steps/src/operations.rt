@@ -1,10 +1,10 @@
 // The operations, each over the registers and the parts that it reaches. An operation gives the registers after it, or the stop.
 ghost use Rattle.std.specs.Prelude.{◌≡◌, ◌<◌, ◌≤◌, true, false, List, length, pos, ◌+ℤ◌};
-ghost use Rattle.machine.specs.Steps.{tried, arithmetic as arithmetic-on, return_to};
+ghost use Rattle.machine.specs.Steps.{tried, arithmetic as arithmetic_on, return_to};
 ghost use Rattle.machine.specs.declared.parts.Entry.{Entry as EntryD};
 ghost use Rattle.machine.specs.declared.parts.Labelled.{Labelled as LabelledD};
 ghost use Rattle.machine.specs.declared.parts.Operation.TheVariants.{Push, Pop, Noop, Load, Store, Jump, Bnz, Call, Return, Output};
-ghost use Rattle.steps.specs.Operations.{InProgram, applied, labelled as labelled-with, opcode_of, registers as registers-of, request, Rules, Under, Does, OnStack, OnMemory};
+ghost use Rattle.steps.specs.Operations.{InProgram, applied, labelled as labelled_with, opcode_of, registers as registers_of, request, Rules, Under, Does, OnStack, OnMemory};
 ghost use Rattle.steps.specs.Walks.{newest};
 
 use crate::arithmetic::{Arithmetic, branch};
@@ -16,7 +16,7 @@ use rules::{Opcode, Policy, Request, Verdict};
 
 // The same number with another label.
 fn relabelled<L: Copy>(number: Labelled<L>, label: L) -> Labelled<L>
-    ensures { result ≡ labelled-with number.value label }
+    ensures { result ≡ labelled_with number.value label }
 {
     Labelled {
         value: number.value,
@@ -27,7 +27,7 @@ fn relabelled<L: Copy>(number: Labelled<L>, label: L) -> Labelled<L>
 impl<L: Label> Registers<L> {
     // At a place, with this label and so many entries on the stack.
     fn goto(self, pc: i64, pc_label: L, depth: usize) -> Registers<L>
-        ensures { result ≡ registers-of pc pc_label depth self.commands }
+        ensures { result ≡ registers_of pc pc_label depth self.commands }
     {
         Registers {
             pc,
@@ -48,7 +48,7 @@ impl<L: Label> Registers<L> {
     // On to the next place.
     fn next(self, pc_label: L, depth: usize) -> Registers<L>
         requires { InProgram self.pc }
-        ensures { result ≡ registers-of (self.pc +ℤ pos 1) pc_label depth self.commands }
+        ensures { result ≡ registers_of (self.pc +ℤ pos 1) pc_label depth self.commands }
     {
         self.goto(self.next_place(), pc_label, depth)
     }
@@ -149,7 +149,7 @@ impl<L: Label> Registers<L> {
         policy: &mut P,
     ) -> Result<Registers<L>, Stop>
         requires { (self.depth ≤ length stack.old) × (InProgram self.pc) }
-        ensures { OnStack P.Policy.faithful policy.old policy.new stack.old stack.new self result (λ table setup. arithmetic-on L.Label.kind table setup (opcode_of op) (applied op)) }
+        ensures { OnStack P.Policy.faithful policy.old policy.new stack.old stack.new self result (λ table setup. arithmetic_on L.Label.kind table setup (opcode_of op) (applied op)) }
     {
         let a = top_number(stack, self.depth)?;
         let b = top_number(stack, self.depth - 1)?;

@@ -1,6 +1,6 @@
 // One step: what the operation at the program counter comes to.
 ghost use Rattle.std.specs.Prelude.{◌≡◌, ℕ, ◌<◌, ◌≤◌, false, length};
-ghost use Rattle.machine.specs.Steps.{halts as is-halt, halted as halted-at, tried as tried-by};
+ghost use Rattle.machine.specs.Steps.{halts as is_halt, halted as halted_at, tried as tried_by};
 ghost use Rattle.steps.specs.Operations.{InProgram, Does};
 ghost use Rattle.steps.specs.Steps.{Halts, Steps};
 
@@ -23,7 +23,7 @@ pub enum Outcome<L> {
 
 // Whether the operation is a halt.
 fn halts<L: Copy>(op: Operation<L>) -> bool
-    ensures { result ≡ is-halt op }
+    ensures { result ≡ is_halt op }
 {
     match op {
         Operation::Halt => true,
@@ -52,9 +52,11 @@ impl<L: Label> Registers<L> {
         log: &mut [Labelled<L>],
         policy: &mut P,
     ) -> Result<Registers<L>, Stop>
-        requires op_value { (is-halt op ≡ false) × (InProgram self.pc) }
-        requires depth_in_bounds { (self.depth ≤ length stack.old) × (self.commands ≤ length log.old) }
-        ensures { Does P.Policy.faithful policy.old policy.new memory.old memory.new stack.old stack.new log.old log.new self result (λ table setup. tried-by L.Label.kind table setup op) }
+        requires no_halt { is_halt op ≡ false }
+        requires in_program { InProgram self.pc }
+        requires stack_holds { self.depth ≤ length stack.old }
+        requires log_holds { self.commands ≤ length log.old }
+        ensures { Does P.Policy.faithful policy.old policy.new memory.old memory.new stack.old stack.new log.old log.new self result (λ table setup. tried_by L.Label.kind table setup op) }
     {
         match op {
             Operation::Push(number) => self.push(number, stack, policy),
@@ -84,8 +86,9 @@ impl<L: Label> Registers<L> {
         policy: &mut P,
         fuel: u32,
     ) -> Outcome<L>
-        requires program_len_bound { length program.now ≤ 4096 }
-        requires depth_in_bounds { (self.depth ≤ length stack.old) × (self.commands ≤ length log.old) }
+        requires program_fits { length program.now ≤ 4096 }
+        requires stack_holds { self.depth ≤ length stack.old }
+        requires log_holds { self.commands ≤ length log.old }
         ensures { Steps L.Label.kind P.Policy.faithful policy.old policy.new program.now memory.old memory.new stack.old stack.new log.old log.new fuel self result }
     {
         let Some(found) = find(program, self.pc) else {

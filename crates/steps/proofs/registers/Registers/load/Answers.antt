@@ -1,4 +1,4 @@
-use Rattle.std.proofs.Common.{◌≡◌, ◌+◌, ◌-◌, ◌∷◌, sym, ap, ◌∙◌, arith}
+use Rattle.std.proofs.Common.{◌-◌, ◌∷◌, sym, ap, ◌∙◌, arith}
 use Rattle.machine.specs.declared.parts.Entry.TheVariants.{Number}
 use Rattle.steps.specs.Walks.{newest}
 use Rattle.steps.proofs.Doing.{hands_on, does, done_stack}

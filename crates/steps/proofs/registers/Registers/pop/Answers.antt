@@ -1,4 +1,4 @@
-use Rattle.std.proofs.Common.{sym, refl, ◌∙◌, arith}
+use Rattle.std.proofs.Common.{sym, ◌∙◌, arith}
 use Rattle.steps.proofs.Doing.{hands_on, does}
 use Rattle.steps.proofs.registers.Registers.pop.Goals as goal
 

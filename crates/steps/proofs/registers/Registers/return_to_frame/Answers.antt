@@ -1,4 +1,4 @@
-use Rattle.std.proofs.Common.{sym, ap, ◌∙◌}
+use Rattle.std.proofs.Common.{ap, ◌∙◌}
 use Rattle.machine.specs.Steps.{return_to}
 use Rattle.steps.specs.Operations.{round}
 use Rattle.steps.specs.Walks.{newest}

@@ -1,4 +1,4 @@
-use Rattle.std.proofs.Common.{◌≡◌, ◌+◌, ◌-◌, ◌∷◌, set, sym, ap, ◌∙◌, arith}
+use Rattle.std.proofs.Common.{◌≡◌, ◌-◌, set, sym, ap, ◌∙◌, arith}
 use Rattle.machine.specs.Steps.{◌at◌, set_place}
 use Rattle.steps.specs.Walks.{newest}
 use Rattle.steps.proofs.Doing.{hands_on, does, done_memory, done_stack}
