@@ -153,9 +153,9 @@ module _ {L : Type 0} (kind : Kind L) (setup : Setup L) where
   -- and they are ready where the calls are proper
   pub ready_flat : (st : Station L) (calls : List (Call L)) → Allowed kind setup st calls → AllPublished kind calls
       → Ready st (flat calls)
-  ready_flat st [] allowed published = tt
-  ready_flat st (call ∷ calls) allowed published =
-      fits (misfit setup.sizes call) (ready_flat (after kind setup st call) calls allowed.1 published.1)
+  ready_flat st [] allowed rows = tt
+  ready_flat st (call ∷ calls) allowed rows =
+      fits (misfit setup.sizes call) (ready_flat (after kind setup st call) calls allowed.1 rows.1)
     where
       moves : (call : Call L) → Takes st call → Published kind call → Ready (effect kind setup st call) (flat calls)
           → Ready st (moves_of call (flat calls))
@@ -168,7 +168,7 @@ module _ {L : Type 0} (kind : Kind L) (setup : Setup L) where
 
       fits : (x : Option Part) → Ready (fitting x (λ _. st) (effect kind setup st call)) (flat calls)
           → Ready st (fitting x (λ _. flat calls) (moves_of call (flat calls)))
-      fits None h = moves call allowed.0 published.0 h
+      fits None h = moves call allowed.0 rows.0 h
       fits (Some part) h = h
 
   -- What an enter, a start and a step keep, all calls keep.

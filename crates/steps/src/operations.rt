@@ -110,7 +110,8 @@ impl<L: Label> Registers<L> {
         stack: &mut [Entry<L>],
         policy: &mut P,
     ) -> Result<Registers<L>, Stop>
-        requires { (self.depth ≤ length stack.old) × (InProgram self.pc) }
+        requires stack_holds { self.depth ≤ length stack.old }
+        requires in_program { InProgram self.pc }
         ensures { OnStack P.Policy.faithful policy.old policy.new stack.old stack.new self result (λ table setup. tried L.Label.kind table setup (Push number)) }
     {
         if self.depth >= stack.len() {
@@ -126,7 +127,8 @@ impl<L: Label> Registers<L> {
     }
 
     pub fn pop<P: Policy<L>>(self, stack: &[Entry<L>], policy: &mut P) -> Result<Registers<L>, Stop>
-        requires { (self.depth ≤ length stack.now) × (InProgram self.pc) }
+        requires stack_holds { self.depth ≤ length stack.now }
+        requires in_program { InProgram self.pc }
         ensures { OnStack P.Policy.faithful policy.old policy.new stack.now stack.now self result (λ table setup. tried L.Label.kind table setup Pop) }
     {
         let a = top_number(stack, self.depth)?;
@@ -148,7 +150,8 @@ impl<L: Label> Registers<L> {
         stack: &mut [Entry<L>],
         policy: &mut P,
     ) -> Result<Registers<L>, Stop>
-        requires { (self.depth ≤ length stack.old) × (InProgram self.pc) }
+        requires stack_holds { self.depth ≤ length stack.old }
+        requires in_program { InProgram self.pc }
         ensures { OnStack P.Policy.faithful policy.old policy.new stack.old stack.new self result (λ table setup. arithmetic_on L.Label.kind table setup (opcode_of op) (applied op)) }
     {
         let a = top_number(stack, self.depth)?;
@@ -168,7 +171,8 @@ impl<L: Label> Registers<L> {
         stack: &mut [Entry<L>],
         policy: &mut P,
     ) -> Result<Registers<L>, Stop>
-        requires { (self.depth ≤ length stack.old) × (InProgram self.pc) }
+        requires stack_holds { self.depth ≤ length stack.old }
+        requires in_program { InProgram self.pc }
         ensures { (log : List (LabelledD L)) → self.commands ≤ length log → Does P.Policy.faithful policy.old policy.new memory.now memory.now stack.old stack.new log log self result (λ table setup. tried L.Label.kind table setup Load) }
     {
         let a = top_number(stack, self.depth)?;
@@ -188,7 +192,8 @@ impl<L: Label> Registers<L> {
         stack: &[Entry<L>],
         policy: &mut P,
     ) -> Result<Registers<L>, Stop>
-        requires { (self.depth ≤ length stack.now) × (InProgram self.pc) }
+        requires stack_holds { self.depth ≤ length stack.now }
+        requires in_program { InProgram self.pc }
         ensures { OnMemory P.Policy.faithful policy.old policy.new memory.old memory.new stack.now self result (λ table setup. tried L.Label.kind table setup Store) }
     {
         let a = top_number(stack, self.depth)?;
@@ -221,7 +226,8 @@ impl<L: Label> Registers<L> {
         stack: &[Entry<L>],
         policy: &mut P,
     ) -> Result<Registers<L>, Stop>
-        requires { (self.depth ≤ length stack.now) × (InProgram self.pc) }
+        requires stack_holds { self.depth ≤ length stack.now }
+        requires in_program { InProgram self.pc }
         ensures { OnStack P.Policy.faithful policy.old policy.new stack.now stack.now self result (λ table setup. tried L.Label.kind table setup (Bnz by)) }
     {
         let a = top_number(stack, self.depth)?;
@@ -236,7 +242,8 @@ impl<L: Label> Registers<L> {
         stack: &mut [Entry<L>],
         policy: &mut P,
     ) -> Result<Registers<L>, Stop>
-        requires { (self.depth ≤ length stack.old) × (InProgram self.pc) }
+        requires stack_holds { self.depth ≤ length stack.old }
+        requires in_program { InProgram self.pc }
         ensures { OnStack P.Policy.faithful policy.old policy.new stack.old stack.new self result (λ table setup. tried L.Label.kind table setup (Call count due)) }
     {
         let a = top_number(stack, self.depth)?;
@@ -280,7 +287,8 @@ impl<L: Label> Registers<L> {
         stack: &mut [Entry<L>],
         policy: &mut P,
     ) -> Result<Registers<L>, Stop>
-        requires { (self.depth ≤ length stack.old) × (index < self.depth) }
+        requires stack_holds { self.depth ≤ length stack.old }
+        requires frame_in_use { index < self.depth }
         ensures { OnStack P.Policy.faithful policy.old policy.new stack.old stack.new self result (λ table setup. return_to L.Label.kind table setup true frame (newest index stack.old)) }
     {
         let a = top_number(stack, self.depth)?;
@@ -308,7 +316,9 @@ impl<L: Label> Registers<L> {
         log: &mut [Labelled<L>],
         policy: &mut P,
     ) -> Result<Registers<L>, Stop>
-        requires { (self.depth ≤ length stack.now) × ((InProgram self.pc) × (self.commands ≤ length log.old)) }
+        requires stack_holds { self.depth ≤ length stack.now }
+        requires in_program { InProgram self.pc }
+        requires log_holds { self.commands ≤ length log.old }
         ensures { (memory : List (LabelledD L)) → Does P.Policy.faithful policy.old policy.new memory memory stack.now stack.now log.old log.new self result (λ table setup. tried L.Label.kind table setup Output) }
     {
         let a = top_number(stack, self.depth)?;

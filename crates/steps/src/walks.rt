@@ -94,7 +94,8 @@ pub fn nearest_frame<L: Copy>(stack: &[Entry<L>], depth: usize) -> Result<Found<
 
 // Puts an element under the top `count` of the first `depth`, each of which moves up by one place.
 pub fn insert_under<T: Copy>(part: &mut [T], depth: usize, count: usize, element: T)
-    requires { (depth < length part.old) × (count ≤ depth) }
+    requires has_room { depth < length part.old }
+    requires holds_count { count ≤ depth }
     ensures { newest (depth + 1) part.new ≡ take count (newest depth part.old) ++ element ∷ drop count (newest depth part.old) }
 {
     let index = depth - count;

@@ -36,7 +36,10 @@ insert_under-requires g c =
     let under = newest (c.args.self.depth - 1) c.args.stack.now in
     let counted = leb-true c.from-arguments.result (numbers_on_top under) (sym c.if-not-has_numbers.ensures) in
     let le : c.args.self.depth - 1 ≤ length c.args.stack.now = omega arith in
-    (omega arith, omega (arith, numbers_within under, length_newest (c.args.self.depth - 1) c.args.stack.now le))
+    record {
+      has_room = omega arith;
+      holds_count = omega (arith, numbers_within under, length_newest (c.args.self.depth - 1) c.args.stack.now le);
+    }
 
 pub returns : goal.returns
 returns g c memory log room =
@@ -57,7 +60,7 @@ returns g c memory log room =
     ∙ ap (λ n. take n under ++ frame (to_z w64 (of_z w64 c.next_place.result)) ∷ drop n under) c.from-arguments.ensures
     ∙ ap (λ place. take c.args.count under ++ frame place ∷ drop c.args.count under) next
     ∙ taken_onto c.args.count under (frame (c.args.self.pc +ℤ pos 1)) enough in
-    does c.goto.ensures c.ask_one.ensures.still c.requires.0 room
+    does c.goto.ensures c.ask_one.ensures.still c.requires.stack_holds room
     (λ table true setup _ _.
     done_place place ∙ done_stack inserted
     ∙ sym (a.1 _ ∙ takes_all c.args.count under _ enough ∙ c.in_ok-verdict.ensures.holds table true _))
