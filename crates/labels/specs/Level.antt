@@ -1,7 +1,8 @@
 -- The eight levels: ordered as their numbers, joined to the larger. Assumes nothing.
-use Rattle.std.specs.Prelude.{◌≡◌, ℕ, ◌+◌, Bool, cond, List, [], ◌∷◌, Some, None, Option, ◌≢◌, nat_le}
+use Rattle.std.specs.Prelude.{◌≡◌, ℕ, ◌+◌, Bool, cond, List, [], ◌∷◌, Ok, Err, Result, ◌≢◌, nat_le}
 use Rattle.labels.specs.Kind.{Kind}
 use Rattle.labels.specs.declared.level.Level.{Level}
+use Rattle.labels.specs.declared.level.NotALevel.{NotALevel}
 use Rattle.labels.specs.declared.level.Level.TheVariants.{L0, L1, L2, L3, L4, L5, L6, L7}
 
 -- the number of a level
@@ -25,10 +26,10 @@ levels = record { below = level_below; bottom = L0; join = λ a b. cond (level_b
 abbrev pub digit : Level → ℕ
 digit a = 48 + rank a
 
--- which level's digit a byte is, if any
-abbrev pub LevelDigit : ℕ → Option Level → Type 0
-LevelDigit byte None = (a : Level) → byte ≢ digit a
-LevelDigit byte (Some a) = byte ≡ digit a
+-- which level's digit a byte is, or that it is none's
+abbrev pub LevelDigit : ℕ → Result Level NotALevel → Type 0
+LevelDigit byte (Ok a) = byte ≡ digit a
+LevelDigit byte (Err e) = ((a : Level) → byte ≢ digit a) × (e.0 ≡ byte)
 
 abbrev pub level_text : Level → List ℕ
 level_text a = digit a ∷ []

@@ -1,24 +1,19 @@
 -- Laws of sets by their masks. Assumes nothing.
-use Rattle.std.specs.Prelude.{◌≡◌, ℕ, ◌/◌, ◌<◌, true, ◌==◌, bit_or, refl}
+use Rattle.std.specs.Prelude.{◌≡◌, ℕ, ◌<◌, true, ◌==◌, bit_or, refl}
 use Rattle.std.proofs.Common.{sym, ap, ◌∙◌, arith}
 use mathlib.Core.HLevel.{is_prop→PathP}
 use Rattle.std.proofs.Math.Bridge.{le_prop}
-use Rattle.std.proofs.Math.Arith.{bin_ind}
-use Rattle.std.specs.Int.Bits.{or_step, or_self}
-use Rattle.std.proofs.lemmas.Nat.{or_shr, or_comm}
+use Rattle.std.specs.Int.Bits.{or_self}
+use Rattle.std.proofs.lemmas.Nat.{or_comm}
+use Rattle.std.proofs.lemmas.Nat.Bits.{bit_at_or, same_from_bits}
 use Rattle.std.proofs.lemmas.Bool.{eqb-true, eq-eqb}
 use Rattle.labels.specs.Growers.{grower_sets}
 use Rattle.labels.specs.Kind.{Lawful}
 use Rattle.labels.specs.declared.growers.mask.Growers.{Growers}
 
 or_assoc : (a b c : ℕ) → bit_or (bit_or a b) c ≡ bit_or a (bit_or b c)
-or_assoc =
-    bin_ind (λ (a : ℕ). (b c : ℕ) → bit_or (bit_or a b) c ≡ bit_or a (bit_or b c)) (λ b c. refl)
-    (λ a ih b c.
-    let l : bit_or (bit_or a b) c / 2 ≡ bit_or (bit_or (a / 2) (b / 2)) (c / 2) = or_shr (bit_or a b) c 1 ∙ ap (λ (x : ℕ). bit_or x (c / 2)) (or_shr a b 1) in
-    let r : bit_or a (bit_or b c) / 2 ≡ bit_or (a / 2) (bit_or (b / 2) (c / 2)) = or_shr a (bit_or b c) 1 ∙ ap (bit_or (a / 2)) (or_shr b c 1) in
-    let h : bit_or (bit_or a b) c / 2 ≡ bit_or a (bit_or b c) / 2 = l ∙ ih (b / 2) (c / 2) ∙ sym r in
-    omega (arith, or_step (bit_or a b) c, or_step a (bit_or b c), or_step a b, or_step b c))
+or_assoc a b c =
+    same_from_bits _ _ (λ g. omega (arith, bit_at_or (bit_or a b) c g, bit_at_or a b g, bit_at_or a (bit_or b c) g, bit_at_or b c g))
 
 -- two sets with one mask are the same
 pub same_mask : (a b : Growers) → a.mask ≡ b.mask → a ≡ b

@@ -1,6 +1,7 @@
 -- No label's text begins another's: the proofs of that law for sets of growers and for pairs. Assumes nothing.
-use Rattle.std.specs.Prelude.{◌≡◌, ℕ, ◌/◌, ◌%◌, ◌<◌, List, [], ◌∷◌, ◌++◌, length, drop, refl}
+use Rattle.std.specs.Prelude.{◌≡◌, ℕ, ◌/◌, ◌%◌, ◌<◌, List, ◌++◌}
 use Rattle.std.proofs.Common.{sym, ap, ap₂, ◌∙◌, append_assoc, arith}
+use Rattle.std.proofs.lemmas.List.{append_cancel_left}
 use Rattle.labels.specs.Growers.{hex, grower_text}
 use Rattle.labels.specs.Pair.{pair, pair_text}
 use Rattle.labels.specs.Text.{PrefixFree, Begins}
@@ -30,25 +31,21 @@ growers_prefix_free a b s t e =
 
 -- Pairs: the left text ends where the left label says, and the right one begins there.
 
-pub drop_text : (xs ys : List ℕ) → drop (length xs) (xs ++ ys) ≡ ys
-drop_text [] ys = refl
-drop_text (x ∷ xs) ys = drop_text xs ys
-
 module _ {A B : Type 0} (left : A → List ℕ) (right : B → List ℕ) where
   pub in_two : (x : Pair A B) (bytes rest : List ℕ) → bytes ≡ pair_text left right x ++ rest → bytes ≡ left x.left ++ (right x.right ++ rest)
   in_two x bytes rest e = e ∙ append_assoc (left x.left) (right x.right) rest
 
-  -- bytes that begin with the left text a go on with the right text of every pair with which they begin
-  pub pair_rest : PrefixFree left → (bytes : List ℕ) (a : A) → Begins left bytes a → (x : Pair A B) → Begins (pair_text left right) bytes x
-      → (x.left ≡ a) × Begins right (drop (length (left a)) bytes) x.right
-  pair_rest free bytes a (rest, e) x (more, f) =
+  -- bytes that begin with the left text of a go on with the right text of every pair with which they begin
+  pub pair_rest : PrefixFree left → (bytes : List ℕ) (a : A) (rest : List ℕ) → bytes ≡ left a ++ rest → (x : Pair A B) → Begins (pair_text left right) bytes x
+      → (x.left ≡ a) × Begins right rest x.right
+  pair_rest free bytes a rest e x (more, f) =
       let two = in_two x bytes more f in
       let one : x.left ≡ a = free x.left a (right x.right ++ more) rest (sym two ∙ e) in
-      (one, (more, ap₂ (λ n l. drop n l) (ap (λ y. length (left y)) (sym one)) two ∙ drop_text (left x.left) (right x.right ++ more)))
+      let same : left a ++ rest ≡ left a ++ (right x.right ++ more) = sym e ∙ two ∙ ap (λ y. left y ++ (right x.right ++ more)) one in
+      (one, (more, append_cancel_left (left a) rest (right x.right ++ more) same))
 
   pub pair_prefix_free : PrefixFree left → PrefixFree right → PrefixFree (pair_text left right)
   pair_prefix_free left_free right_free x y s t e =
-      let whole = pair_text left right y ++ t in
-      let (one, (rest, f)) = pair_rest left_free whole y.left (right y.right ++ t, append_assoc (left y.left) (right y.right) t) x (s, sym e) in
-      let g : drop (length (left y.left)) whole ≡ right y.right ++ t = ap (drop (length (left y.left))) (append_assoc (left y.left) (right y.right) t) ∙ drop_text (left y.left) (right y.right ++ t) in
-      ap₂ pair one (right_free x.right y.right rest t (sym f ∙ g))
+      let whole = append_assoc (left y.left) (right y.right) t in
+      let (one, (rest, f)) = pair_rest left_free (pair_text left right y ++ t) y.left (right y.right ++ t) whole x (s, sym e) in
+      ap₂ pair one (right_free x.right y.right rest t (sym f))

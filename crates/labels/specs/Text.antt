@@ -1,6 +1,6 @@
 -- Texts of labels, and what is read off the front of some bytes. Assumes nothing.
-use Rattle.std.specs.Prelude.{◌≡◌, ℕ, List, ◌++◌, length, Some, None, Option}
-use Rattle.labels.specs.declared.Reading.{Reading}
+use Rattle.std.specs.Prelude.{◌≡◌, ℕ, List, ◌++◌, Some, None, Option}
+use Rattle.std.specs.Borrow.{Bor}
 
 -- no label's text begins another's: bytes that begin with the texts of two labels have one label twice
 abbrev pub PrefixFree : {L : Type 0} → (L → List ℕ) → Type 0
@@ -10,7 +10,11 @@ PrefixFree {L} text = (a b : L) (s t : List ℕ) → text a ++ s ≡ text b ++ t
 abbrev pub Begins : {L : Type 0} → (L → List ℕ) → List ℕ → L → Type 0
 Begins text bytes a = (rest : List ℕ) × (bytes ≡ text a ++ rest)
 
--- what reading the bytes gives: the label with whose text they begin and that text's length, or none if they begin with no label's text
-abbrev pub Reads : {L : Type 0} → (L → List ℕ) → List ℕ → Option (Reading L) → Type 0
+-- what reading the bytes gives: the label with whose text they begin and the bytes behind it, or none if they begin with no label's text
+abbrev pub Reads : {L : Type 0} → (L → List ℕ) → List ℕ → Option (L × Bor (List ℕ)) → Type 0
 Reads {L} text bytes None = (a : L) → Begins text bytes a → ⊥
-Reads text bytes (Some r) = Begins text bytes r.label × (r.length ≡ length (text r.label))
+Reads text bytes (Some r) = bytes ≡ text r.0 ++ r.1.now
+
+-- what is shown of a label is its text
+abbrev pub Shows : {L : Type 0} → (L → List ℕ) → (L → Option (List ℕ)) → Type 0
+Shows {L} text output = (a : L) → output a ≡ Some (text a)

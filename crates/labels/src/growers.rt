@@ -1,9 +1,9 @@
-ghost use Rattle.std.specs.Prelude.{◌≡◌, ℕ, ◌<◌, true, ◌==◌, bit_or};
+ghost use Rattle.std.specs.Prelude.{◌≡◌, ℕ, ◌<◌, true, ◌==◌, bit_or, Some, refl};
 ghost use Rattle.labels.specs.Growers.{grower_sets, grower_text, In, Within, Unites, hex, HexDigit};
 ghost use Rattle.labels.specs.Masks.{grower_laws};
 ghost use Rattle.labels.specs.PrefixFree.{growers_prefix_free};
 
-use crate::{Label, Reading};
+use crate::Label;
 use std::fmt;
 
 mod mask;
@@ -18,6 +18,8 @@ impl Label for Growers {
     ghost lawful = { grower_laws };
 
     ghost unambiguous = { growers_prefix_free };
+
+    ghost shown = { λ _. refl };
 
     fn flows_to(self, other: Growers) -> bool
         ensures below { result ≡ grower_sets.below self other }
@@ -42,21 +44,22 @@ impl Label for Growers {
         }
     }
 
-    fn read(bytes: &[u8]) -> Option<Reading<Growers>> {
-        let [a, b, c, d, ..] = bytes else {
+    fn read(bytes: &[u8]) -> Option<(Growers, &[u8])> {
+        let [a, b, c, d, rest @ ..] = bytes else {
             return None;
         };
         let high = hex_value(*a)? * 16 + hex_value(*b)?;
         let low = hex_value(*c)? * 16 + hex_value(*d)?;
-        Some(Reading {
-            label: Growers {
-                mask: high * 256 + low,
-            },
-            length: 4,
-        })
+        let mask = high * 256 + low;
+        Some((Growers { mask }, rest))
     }
+}
 
-    fn write<W: fmt::Write>(self, f: &mut fmt::Formatter<W>) -> fmt::Result {
+impl fmt::Display for Growers {
+    ghost output = { λ x. Some (grower_text x) };
+
+    // Not by `{:04x}`, of which no contract says what it writes.
+    fn fmt<W: fmt::Write>(&self, f: &mut fmt::Formatter<W>) -> fmt::Result {
         let a = hex_digit(self.mask / 4096);
         let b = hex_digit(self.mask / 256 % 16);
         let c = hex_digit(self.mask / 16 % 16);
@@ -84,11 +87,10 @@ fn hex_digit(n: u16) -> char
     requires { n < 16 }
     ensures { result ≡ hex n }
 {
-    let digit = if n < 10 { 48 + n } else { 87 + n };
-    char::from(digit as u8)
+    char::from_digit(u32::from(n), 16).unwrap()
 }
 
-// The number of a lower-case hexadecimal digit.
+// The number of a lower-case hexadecimal digit. Not by `char::to_digit`, which takes capitals too.
 fn hex_value(byte: u8) -> Option<u16>
     ensures { HexDigit byte result }
 {

@@ -1,12 +1,13 @@
-ghost use Rattle.std.specs.Prelude.{◌≡◌};
-ghost use Rattle.labels.specs.Level.{levels, level_text, digit, LevelDigit};
+ghost use Rattle.std.specs.Prelude.{Some};
+ghost use Rattle.labels.specs.Level.{levels, level_text, LevelDigit};
 ghost use Rattle.std.proofs.Common.{rules};
 
-use crate::{Label, Reading};
+use crate::Label;
+use std::error::Error;
 use std::fmt;
 
 // A level from 0 to 7. There is none above 7.
-#[derive(Clone, Copy)]
+#[derive(Clone, Copy, Debug, PartialEq, Eq, PartialOrd, Ord, Hash)]
 pub enum Level {
     L0,
     L1,
@@ -27,8 +28,10 @@ impl Label for Level {
 
     ghost unambiguous = { Prim.search rules };
 
+    ghost shown = { Prim.search rules };
+
     fn flows_to(self, other: Level) -> bool {
-        self as u8 <= other as u8
+        self <= other
     }
 
     fn bottom() -> Level {
@@ -36,42 +39,53 @@ impl Label for Level {
     }
 
     fn join(self, other: Level) -> Level {
-        if self.flows_to(other) { other } else { self }
+        self.max(other)
     }
 
-    fn read(bytes: &[u8]) -> Option<Reading<Level>> {
-        let [byte, ..] = bytes else {
-            return None;
-        };
-        let label = level_of(*byte)?;
-        Some(Reading { label, length: 1 })
-    }
-
-    fn write<W: fmt::Write>(self, f: &mut fmt::Formatter<W>) -> fmt::Result {
-        f.write_char(char::from(digit_of(self)))
+    fn read(bytes: &[u8]) -> Option<(Level, &[u8])> {
+        let (digit, rest) = bytes.split_first()?;
+        let level = Level::try_from(*digit).ok()?;
+        Some((level, rest))
     }
 }
 
-// The level of a digit.
-fn level_of(byte: u8) -> Option<Level>
-    ensures { LevelDigit byte result }
-{
-    match byte {
-        b'0' => Some(Level::L0),
-        b'1' => Some(Level::L1),
-        b'2' => Some(Level::L2),
-        b'3' => Some(Level::L3),
-        b'4' => Some(Level::L4),
-        b'5' => Some(Level::L5),
-        b'6' => Some(Level::L6),
-        b'7' => Some(Level::L7),
-        _ => None,
+// A byte that is no level's digit.
+#[derive(Clone, Copy, Debug, PartialEq, Eq, Hash)]
+pub struct NotALevel(pub u8);
+
+impl TryFrom<u8> for Level {
+    type Error = NotALevel;
+
+    ghost try_from_gives = { LevelDigit };
+
+    // The level of a digit.
+    fn try_from(digit: u8) -> Result<Level, NotALevel> {
+        match digit {
+            b'0' => Ok(Level::L0),
+            b'1' => Ok(Level::L1),
+            b'2' => Ok(Level::L2),
+            b'3' => Ok(Level::L3),
+            b'4' => Ok(Level::L4),
+            b'5' => Ok(Level::L5),
+            b'6' => Ok(Level::L6),
+            b'7' => Ok(Level::L7),
+            _ => Err(NotALevel(digit)),
+        }
     }
 }
 
-// The digit of a level.
-fn digit_of(level: Level) -> u8
-    ensures { result ≡ digit level }
-{
-    b'0' + level as u8
+impl fmt::Display for Level {
+    ghost output = { λ x. Some (level_text x) };
+
+    fn fmt<W: fmt::Write>(&self, f: &mut fmt::Formatter<W>) -> fmt::Result {
+        f.write_char(char::from(b'0' + *self as u8))
+    }
 }
+
+impl fmt::Display for NotALevel {
+    fn fmt<W: fmt::Write>(&self, f: &mut fmt::Formatter<W>) -> fmt::Result {
+        write!(f, "byte {} is no digit of a level", self.0)
+    }
+}
+
+impl Error for NotALevel {}

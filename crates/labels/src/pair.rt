@@ -1,12 +1,13 @@
+ghost use Rattle.std.specs.Prelude.{Some};
 ghost use Rattle.labels.specs.Pair.{pairs, pair_text};
 ghost use Rattle.labels.specs.PrefixFree.{pair_prefix_free};
 ghost use Rattle.std.proofs.Common.{rules};
 
-use crate::{Label, Reading};
+use crate::Label;
 use std::fmt;
 
 // Labels of two kinds, compared and joined part by part.
-#[derive(Clone, Copy)]
+#[derive(Clone, Copy, Debug, PartialEq, Eq, Hash)]
 pub struct Pair<A, B> {
     pub left: A,
     pub right: B,
@@ -20,6 +21,8 @@ impl<A: Label, B: Label> Label for Pair<A, B> {
     ghost lawful = { Prim.search rules };
 
     ghost unambiguous = { pair_prefix_free A.Label.text B.Label.text A.Label.unambiguous B.Label.unambiguous };
+
+    ghost shown = { Prim.search rules };
 
     fn flows_to(self, other: Pair<A, B>) -> bool {
         self.left.flows_to(other.left) && self.right.flows_to(other.right)
@@ -39,21 +42,17 @@ impl<A: Label, B: Label> Label for Pair<A, B> {
         }
     }
 
-    fn read(bytes: &[u8]) -> Option<Reading<Pair<A, B>>> {
-        let left = A::read(bytes)?;
-        let (_, rest) = bytes.split_at(left.length);
-        let right = B::read(rest)?;
-        Some(Reading {
-            label: Pair {
-                left: left.label,
-                right: right.label,
-            },
-            length: left.length + right.length,
-        })
+    fn read(bytes: &[u8]) -> Option<(Pair<A, B>, &[u8])> {
+        let (left, rest) = A::read(bytes)?;
+        let (right, rest) = B::read(rest)?;
+        Some((Pair { left, right }, rest))
     }
+}
 
-    fn write<W: fmt::Write>(self, f: &mut fmt::Formatter<W>) -> fmt::Result {
-        self.left.write(f)?;
-        self.right.write(f)
+impl<A: Label, B: Label> fmt::Display for Pair<A, B> {
+    ghost output = { λ x. Some (pair_text A.Label.text B.Label.text x) };
+
+    fn fmt<W: fmt::Write>(&self, f: &mut fmt::Formatter<W>) -> fmt::Result {
+        write!(f, "{}{}", self.left, self.right)
     }
 }

@@ -58,12 +58,9 @@ fn pairs_of_pairs_are_labels(rt: HostRuntime) {
 
 #[test]
 fn texts_are_read_off_the_front(rt: HostRuntime) -> Result<(), Fail> {
-    let Some(reading) = Both::read(b"500ff7") else {
-        assert!(rt; false, "no label was read");
-        return Ok(());
-    };
-    assert!(rt; reading.length == 5);
-    assert!(rt; same(reading.label, both(Level::L5, 0x00ff)));
+    let (label, rest) = Both::read(b"500ff7").ok_or("no label was read")?;
+    assert_eq!(rt; rest, b"7".as_slice(), "five bytes were read");
+    assert!(rt; same(label, both(Level::L5, 0x00ff)));
     assert!(rt; Both::read(b"500f").is_none());
     assert!(rt; Both::read(b"500FF").is_none());
     assert!(rt; Level::read(b"8").is_none());
@@ -73,7 +70,7 @@ fn texts_are_read_off_the_front(rt: HostRuntime) -> Result<(), Fail> {
 
 #[test]
 fn texts_are_written_in_full(rt: HostRuntime) -> Result<(), Fail> {
-    let text = Shown(both(Level::L5, 0x0a0f)).to_string(rt.alloc())?;
+    let text = both(Level::L5, 0x0a0f).to_string(rt.alloc())?;
     assert_eq!(rt; text.as_str(), "50a0f");
     Ok(())
 }

@@ -1,9 +1,5 @@
-use Rattle.labels.specs.Masks.{same_mask}
 use Rattle.labels.proofs.Members.{union_has}
 use Rattle.labels.proofs.growers.GrowersLabel.join.Goals as goal
 
-pub returns : goal.returns
-returns c = record {
-  join = same_mask _ _ c.union.ensures;
-  union = union_has c.args.self c.args.other c.union.result c.union.ensures;
-}
+pub returns-clause-union : goal.returns-clause-union
+returns-clause-union c = union_has c.args.self c.args.other c.union.result c.union.ensures
