@@ -9,11 +9,8 @@ use Rattle.rules.specs.declared.cached.Memory.{Memory}
 same_memory : {L : Type 0} (x y : Memory L) → Some x ≡ Some y → x ≡ y
 same_memory x y e = cc
 
-one_answer : {L : Type 0} {q : Request L} {a b : Option (Verdict L)} → memory q a ≡ memory q b → a ≡ b
-one_answer e = ap (λ m. m.answer) (same_memory _ _ e)
-
 pub recalled : {P L : Type 0} {asked : P → Request L → Option (Verdict L) → P → Type 0} (s : Cached P L) (m : Memory L) (q : Request L)
     → s.last ≡ Some m → m.request ≡ q → CachedAsked asked s q m.answer s
 recalled s m q held same =
     let e : s.last ≡ memory q m.answer = held ∙ ap (λ x. memory x m.answer) same in
-    record { remembers = e; hit = λ a f. (one_answer (sym e ∙ f), refl); miss = λ other. absurd (other m.answer e) }
+    record { remembers = e; hit = λ a f. (ap (λ x. x.answer) (same_memory _ _ (sym e ∙ f)), refl); miss = λ other. absurd (other m.answer e) }

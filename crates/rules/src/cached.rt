@@ -1,19 +1,19 @@
 ghost use Rattle.std.specs.Prelude.{◌≡◌, None};
-ghost use Rattle.rules.specs.Policies.{CachedFaithful, CachedAsked};
+ghost use Rattle.rules.specs.Policies.{CachedFaithful, CachedAsked, Named};
 ghost use Rattle.rules.specs.Tables.{Table, Obeys};
 
 use crate::{Policy, Request, Verdict};
 use labels::Label;
 
 // A request and what was answered.
-#[derive(Clone, Copy)]
+#[derive(Clone, Copy, Debug, PartialEq, Eq, Hash)]
 pub struct Memory<L> {
     pub request: Request<L>,
     pub answer: Option<Verdict<L>>,
 }
 
 // A one-line cache over any policy, itself included: it remembers its last request and answer.
-#[derive(Drop)]
+#[derive(Debug, Drop)]
 pub struct Cached<P, L> {
     pub(crate) below: P,
     pub(crate) last: Option<Memory<L>>,
@@ -24,6 +24,7 @@ impl<P: Policy<L>, L: Label> Cached<P, L> {
     pub fn new(below: P) -> Cached<P, L>
         ensures below { result.below ≡ below }
         ensures empty { result.last ≡ None }
+        ensures named { Named ⟦<Cached<P, L> as Policy<L>>⟧.faithful (CachedFaithful P.Policy.faithful) ⟦<Cached<P, L> as Policy<L>>⟧.asked (CachedAsked P.Policy.asked) }
         ensures faithful { (t : Table L) → P.Policy.faithful below t → CachedFaithful P.Policy.faithful result t }
     {
         Cached { below, last: None }
@@ -39,13 +40,13 @@ impl<P: Policy<L>, L: Label> Policy<L> for Cached<P, L> {
         ensures obeys { Obeys (CachedFaithful P.Policy.faithful) self.old request result self.new }
         ensures asked { CachedAsked P.Policy.asked self.old request result self.new }
     {
-        if let Some(memory) = self.last {
-            if memory.request.same_as(request) {
-                return memory.answer;
+        match self.last {
+            Some(memory) if memory.request.same_as(request) => memory.answer,
+            _ => {
+                let answer = self.below.rule(request);
+                self.last = Some(Memory { request, answer });
+                answer
             }
         }
-        let answer = self.below.rule(request);
-        self.last = Some(Memory { request, answer });
-        answer
     }
 }

@@ -1,21 +1,21 @@
 ghost use Rattle.std.specs.Prelude.{◌≡◌};
-ghost use Rattle.rules.specs.Policies.{DirectFaithful, DirectAsked};
+ghost use Rattle.rules.specs.Policies.{DirectFaithful, DirectAsked, Named};
 ghost use Rattle.rules.specs.Tables.{Obeys, published};
 
-use crate::asking::true_to_published;
 use crate::{Opcode, Policy, Request, Verdict};
 use labels::Label;
 
 // The policy that works the published rows out.
-#[derive(Clone, Copy)]
+#[derive(Clone, Copy, Debug, PartialEq, Eq, Hash)]
 pub struct Direct {}
 
 impl Direct {
     // True to the published rows, for labels of kind L.
     pub fn new<L: Label>() -> Direct
-        ensures { DirectFaithful L.Label.kind result (published L.Label.kind) }
+        ensures faithful { DirectFaithful L.Label.kind result (published L.Label.kind) }
+        ensures named { Named ⟦<Direct as Policy<L>>⟧.faithful (DirectFaithful L.Label.kind) ⟦<Direct as Policy<L>>⟧.asked (DirectAsked L.Label.kind) }
     {
-        true_to_published::<Direct, L>(Direct {})
+        Direct {}
     }
 }
 
@@ -36,17 +36,21 @@ impl<L: Label> Policy<L> for Direct {
 fn work_out<L: Label>(request: Request<L>) -> Option<Verdict<L>>
     ensures { result ≡ published L.Label.kind request }
 {
-    let Request { op, pc: p, a, b, c } = request;
+    if request.is_refused() {
+        return None;
+    }
+    let Request {
+        op,
+        pc: p,
+        a,
+        b,
+        c: _,
+    } = request;
     let (pc, result) = match op {
         Opcode::Push => (p, a),
         Opcode::Pop | Opcode::Noop => (p, L::bottom()),
         Opcode::Add | Opcode::Sub | Opcode::Less | Opcode::Load => (p, a.join(b)),
-        Opcode::Store => {
-            if !a.join(p).flows_to(c) {
-                return None;
-            }
-            (p, a.join(b).join(p))
-        }
+        Opcode::Store => (p, a.join(b).join(p)),
         Opcode::Jump | Opcode::Bnz => (a.join(p), L::bottom()),
         Opcode::Call => (a.join(p), p),
         Opcode::Return => (a, b.join(p)),

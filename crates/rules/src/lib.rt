@@ -2,24 +2,25 @@
 #![tactic(auto)]
 
 ghost use Rattle.std.specs.Prelude.{◌≡◌, true, Option};
+ghost use Rattle.rules.specs.Rows.{refused};
 ghost use Rattle.rules.specs.declared.Request.{Request};
 ghost use Rattle.rules.specs.declared.Verdict.{Verdict};
 ghost use Rattle.rules.specs.Tables.{Table, Obeys};
 
 use labels::{Label, same};
 
-mod asking;
 mod cached;
 mod direct;
+mod names;
 mod rows;
 
-pub use asking::{ask_cached, ask_direct, ask_row_table};
 pub use cached::{Cached, Memory};
 pub use direct::Direct;
+pub use names::NotAnOperation;
 pub use rows::{Letters, Row, RowTable};
 
 // The operations that ask a policy.
-#[derive(Clone, Copy)]
+#[derive(Clone, Copy, Debug, PartialEq, Eq, Hash)]
 pub enum Opcode {
     Push,
     Pop,
@@ -37,7 +38,7 @@ pub enum Opcode {
 }
 
 // What a policy is asked: an operation, the label of the program counter, and up to three labels more, the unused ones bottom.
-#[derive(Clone, Copy)]
+#[derive(Clone, Copy, Debug, PartialEq, Eq, Hash)]
 pub struct Request<L> {
     pub op: Opcode,
     pub pc: L,
@@ -47,7 +48,7 @@ pub struct Request<L> {
 }
 
 // What a policy answers: the new label of the program counter and the label of the result.
-#[derive(Clone, Copy)]
+#[derive(Clone, Copy, Debug, PartialEq, Eq, Hash)]
 pub struct Verdict<L> {
     pub pc: L,
     pub result: L,
@@ -60,22 +61,30 @@ pub trait Policy<L: Label> {
     // What being asked does: the policy before, the request, the answer and the policy after.
     ghost asked: { Self → Request L → Option (Verdict L) → Self → Type 0 };
 
-    // The verdict on a request, or none, which forbids.
+    // The verdict on a request, or none, which forbids. Each `impl` writes the clauses again: where a parameter's type has
+    // the trait's own parameter, the check cannot give a method the clauses of its trait yet.
     fn rule(&mut self, request: Request<L>) -> Option<Verdict<L>>
         ensures obeys { Obeys faithful self.old request result self.new }
         ensures asked { asked self.old request result self.new };
 }
 
 impl<L: Label> Request<L> {
-    // Whether two requests are the same.
+    // Whether two requests are the same. Not by a derived `==`, which would ask every kind of label for an equality of its own.
     pub fn same_as(self, other: Request<L>) -> bool
         ensures { (result ≡ true → self ≡ other) × (self ≡ other → result ≡ true) }
     {
-        self.op as u8 == other.op as u8
+        self.op == other.op
             && same(self.pc, other.pc)
             && same(self.a, other.a)
             && same(self.b, other.b)
             && same(self.c, other.c)
+    }
+
+    // Whether it asks to store where the labels of the address and the program counter may not flow to the cell's.
+    pub(crate) fn is_refused(self) -> bool
+        ensures { result ≡ refused L.Label.kind self }
+    {
+        self.op == Opcode::Store && !self.a.join(self.pc).flows_to(self.c)
     }
 }
 

@@ -1,13 +1,13 @@
 ghost use Rattle.std.specs.Prelude.{◌≡◌};
-ghost use Rattle.rules.specs.Rows.{letter, joined, refused, row_of, published_rows, RowsFaithful, RowsAsked};
+ghost use Rattle.rules.specs.Rows.{letter, joined, row_of, published_rows, RowsFaithful, RowsAsked};
+ghost use Rattle.rules.specs.Policies.{Named};
 ghost use Rattle.rules.specs.Tables.{Obeys, published};
 
-use crate::asking::true_to_published;
-use crate::{Opcode, Policy, Request, Verdict};
+use crate::{Policy, Request, Verdict};
 use labels::Label;
 
 // A set of the letters of a request's labels: A, B, C, and P for the program counter's. It means their join.
-#[derive(Clone, Copy)]
+#[derive(Clone, Copy, Debug, PartialEq, Eq, Hash)]
 pub struct Letters {
     pub a: bool,
     pub b: bool,
@@ -16,14 +16,14 @@ pub struct Letters {
 }
 
 // What an operation's labels are: the letters of the program counter's new label and those of the result's.
-#[derive(Clone, Copy)]
+#[derive(Clone, Copy, Debug, PartialEq, Eq, Hash)]
 pub struct Row {
     pub pc: Letters,
     pub result: Letters,
 }
 
 // The policy that reads its rows off a table, one row for each operation. The condition of store is fixed.
-#[derive(Clone, Copy)]
+#[derive(Clone, Copy, Debug, PartialEq, Eq, Hash)]
 pub struct RowTable {
     rows: [Row; 13],
 }
@@ -33,9 +33,11 @@ impl RowTable {
     pub fn new<L: Label>() -> RowTable
         ensures rows { result.rows ≡ published_rows }
         ensures faithful { RowsFaithful L.Label.kind result (published L.Label.kind) }
+        ensures named { Named ⟦<RowTable as Policy<L>>⟧.faithful (RowsFaithful L.Label.kind) ⟦<RowTable as Policy<L>>⟧.asked (RowsAsked L.Label.kind) }
     {
-        let rows = published_rows();
-        true_to_published::<RowTable, L>(RowTable { rows })
+        RowTable {
+            rows: published_rows(),
+        }
     }
 }
 
@@ -48,24 +50,15 @@ impl<L: Label> Policy<L> for RowTable {
         ensures obeys { Obeys (RowsFaithful L.Label.kind) self.old request result self.new }
         ensures asked { RowsAsked L.Label.kind self.old request result self.new }
     {
-        if forbidden(request) {
+        if request.is_refused() {
             return None;
         }
+        // An operation's number is its row's place: a map or a match would say the same at more length.
         let row = self.rows[request.op as usize];
         Some(Verdict {
             pc: join_of(row.pc, request),
             result: join_of(row.result, request),
         })
-    }
-}
-
-// Whether the condition of store forbids the request.
-fn forbidden<L: Label>(request: Request<L>) -> bool
-    ensures { result ≡ refused L.Label.kind request }
-{
-    match request.op {
-        Opcode::Store => !request.a.join(request.pc).flows_to(request.c),
-        _ => false,
     }
 }
 
@@ -78,7 +71,7 @@ fn join_of<L: Label>(set: Letters, request: Request<L>) -> L
         .join(pick(set.p, request.pc))
 }
 
-// The label if its letter is in the set, else bottom.
+// The label if its letter is in the set, else bottom. The letter stands in a row and the label in a request, so there is no Option.
 fn pick<L: Label>(present: bool, label: L) -> L
     ensures { result ≡ letter L.Label.kind present label }
 {
