@@ -1,6 +1,6 @@
 -- What a step comes to at all, under any table. An operation is done only with fuel and only if the table allows some request; commands
 -- are only added, the memory stays as long, and stack and log hold no more than their sizes if they did before. Assumes nothing.
-use Rattle.std.proofs.Common.{◌≡◌, ℕ, suc, ◌+◌, ◌≤◌, Bool, true, false, ltb, List, [], ◌∷◌, length, ℤ, pos, negsuc, ◌+ℤ◌, Some, None, Option, sym, refl, ap, ◌∙◌, arith, length-set}
+use Rattle.std.proofs.Common.{◌≡◌, ℕ, suc, ◌+◌, ◌≤◌, Bool, true, false, ltb, List, [], ◌∷◌, length, ℤ, pos, negsuc, ◌+ℤ◌, Some, None, Option, refl, ap, ◌∙◌, arith, length-set}
 use Rattle.std.proofs.lemmas.List.{length-append}
 use Rattle.std.proofs.lemmas.Bool.{ltb-true}
 use Rattle.labels.specs.Kind.{Kind}
@@ -18,7 +18,7 @@ use Rattle.machine.specs.declared.parts.Entry.{Entry}
 use Rattle.machine.specs.declared.parts.Entry.TheVariants.{Frame}
 use Rattle.machine.specs.declared.parts.Operation.{Operation}
 use Rattle.machine.specs.declared.parts.Operation.TheVariants.{Push, Pop, Noop, Add, Sub, Less, Load, Store, Jump, Bnz, Call, Return, Output, Halt}
-use Rattle.machine.proofs.Lists.{begins_refl, begins_append, begins_trans, some_not_none}
+use Rattle.machine.proofs.Lists.{begins_refl, begins_append, begins_trans}
 use Rattle.machine.proofs.Flows.{On, forbids, allows, request}
 use Rattle.machine.proofs.Outcomes.{AtStops, provided_any, taking_any, taking_all_any, nearest_frame_any, at_place_any, ruled_any, halted_any, step_any}
 
@@ -76,7 +76,7 @@ module _ {L : Type 0} (kind : Kind L) (table : Table L) (setup : Setup L) (fuel 
 
       answered : (x : Option (Verdict L)) → table q ≡ x → On (λ _ _. Allows table) x
       answered None e = forbids
-      answered (Some v) e = allows (q, λ n. some_not_none (sym e ∙ n))
+      answered (Some v) e = allows (q, λ n. cc)
 
   module _ (n : ℕ) (some : fuel ≡ suc n) where
     -- an operation that leaves no more on the stack, and memory and commands as they were

@@ -1,12 +1,11 @@
 -- The question for the next command finds the first one from the place on that is at or below the clearance. Assumes nothing.
-use Rattle.std.proofs.Common.{◌≡◌, ℕ, zero, suc, ◌+◌, ◌<◌, ◌≤◌, Bool, true, false, cond, List, [], ◌∷◌, drop, Some, None, Option, sym, refl, subst, arith}
+use Rattle.std.proofs.Common.{◌≡◌, ℕ, zero, suc, ◌+◌, ◌<◌, ◌≤◌, Bool, true, false, cond, List, [], ◌∷◌, drop, Some, None, Option, refl, subst, arith}
 use Rattle.labels.specs.Kind.{Kind}
 use Rattle.machine.specs.Laws.{command_at, First, NextIsFirst}
 use Rattle.machine.specs.Stations.{Answer, granted, shows, took, found, refused, next_command, fitting, commands_of, misfit, first_below, reply}
 use Rattle.machine.specs.declared.answers.Part.{Part}
 use Rattle.machine.specs.declared.answers.Refusal.TheVariants.{Length}
 use Rattle.machine.specs.declared.parts.Labelled.{Labelled}
-use Rattle.machine.proofs.Lists.{some_not_none}
 
 module _ {L : Type 0} (kind : Kind L) (clearance : L) where
   abbrev Low : Labelled L → Type 0
@@ -49,7 +48,7 @@ module _ {L : Type 0} (kind : Kind L) (clearance : L) where
   tested false high e f = in_front 0 (λ v _ e. only high e) (omega arith) (λ i _. omega arith) f
 
   no_command : {from start : ℕ} → Found [] from start None
-  no_command = no_place (λ i v h e. absurd (some_not_none (sym e)))
+  no_command = no_place (λ i v h e. absurd (cc))
 
   searched : (xs : List (Labelled L)) (from start n : ℕ) → n ≡ start + from
       → Found xs from start (first_below kind clearance n (drop from xs))

@@ -1,5 +1,5 @@
--- Lists related element by element, beginnings of lists, and an option that holds something. Assumes nothing.
-use Rattle.std.proofs.Common.{◌≡◌, ℕ, zero, suc, List, [], ◌∷◌, ◌++◌, length, set, ℤ, pos, negsuc, Some, None, Option, refl, ap, ◌∙◌, subst, inl, inr}
+-- Lists related element by element, beginnings of lists. Assumes nothing.
+use Rattle.std.proofs.Common.{◌≡◌, ℕ, zero, suc, List, [], ◌∷◌, ◌++◌, length, set, ℤ, pos, negsuc, refl, ap, ◌∙◌, subst, inl, inr}
 use Rattle.machine.specs.Lists.{Each, none, more, Begins, ends, goes_on, OneBegins}
 use Rattle.machine.specs.Steps.{set_place}
 
@@ -59,6 +59,3 @@ module _ {A : Type 0} where
       → OneBegins R (x ∷ xs) (y ∷ ys) → R x y × OneBegins R xs ys
   one_begins_tail s (inl (goes_on h t)) = (h, inl t)
   one_begins_tail s (inr (goes_on h t)) = (s _ _ h, inr t)
-
-pub some_not_none : {A : Type 0} {x : A} → Some x ≡ None → ⊥
-some_not_none {A} e = subst (λ (y : Option A). elim y as (λ _. Type 0) [ None ↦ ⊥ | Some x ↦ Unit {0} ]) e tt

@@ -3,7 +3,7 @@ ghost use Rattle.std.specs.Prelude.{◌≡◌};
 ghost use Rattle.machine.specs.Numbers.{refusal_number, stop_number};
 
 // The four parts of a station, in the order in which they are tested.
-#[derive(Clone, Copy)]
+#[derive(Clone, Copy, Debug, PartialEq, Eq, Hash)]
 pub enum Part {
     Program,
     Memory,
@@ -12,7 +12,7 @@ pub enum Part {
 }
 
 // Why a call is refused. A refused call changes nothing.
-#[derive(Clone, Copy)]
+#[derive(Clone, Copy, Debug, PartialEq, Eq, Hash)]
 pub enum Refusal {
     // 1: making, with a part outside its limits
     Limits(Part),
@@ -25,7 +25,7 @@ pub enum Refusal {
 }
 
 // Why a round is stopped, which shuts the station.
-#[derive(Clone, Copy)]
+#[derive(Clone, Copy, Debug, PartialEq, Eq, Hash)]
 pub enum Stop {
     // 21: the program counter is outside the program
     OutsideProgram,
@@ -45,11 +45,12 @@ pub enum Stop {
     HaltAboveBottom,
 }
 
-impl Refusal {
-    pub fn number(self) -> u8
-        ensures { result ≡ refusal_number self }
-    {
-        match self {
+// The number that a refusal is told by.
+impl From<Refusal> for u8 {
+    ghost from_gives = { λ refusal n. n ≡ refusal_number refusal };
+
+    fn from(refusal: Refusal) -> u8 {
+        match refusal {
             Refusal::Limits(_) => 1,
             Refusal::Length(_) => 2,
             Refusal::Cell => 3,
@@ -58,11 +59,12 @@ impl Refusal {
     }
 }
 
-impl Stop {
-    pub fn number(self) -> u8
-        ensures { result ≡ stop_number self }
-    {
-        match self {
+// The number that a stop is told by.
+impl From<Stop> for u8 {
+    ghost from_gives = { λ stop n. n ≡ stop_number stop };
+
+    fn from(stop: Stop) -> u8 {
+        match stop {
             Stop::OutsideProgram => 21,
             Stop::TooFewNumbers => 22,
             Stop::StackFull => 23,

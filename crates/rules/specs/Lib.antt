@@ -1,4 +1,4 @@
 pub mod Tables
 pub mod Rows
 pub mod Policies
-pub mod Names
+pub mod Texts

@@ -11,13 +11,13 @@ use labels::{Label, same};
 
 mod cached;
 mod direct;
-mod names;
 mod rows;
+mod texts;
 
 pub use cached::{Cached, Memory};
 pub use direct::Direct;
-pub use names::NotAnOperation;
 pub use rows::{Letters, Row, RowTable};
+pub use texts::NotAnOperation;
 
 // The operations that ask a policy.
 #[derive(Clone, Copy, Debug, PartialEq, Eq, Hash)]

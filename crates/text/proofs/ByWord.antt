@@ -1,5 +1,6 @@
 -- Reading a question word by word. Assumes nothing.
-use Rattle.std.proofs.Common.{◌≡◌, ℕ, suc, List, [], ◌∷◌, ◌++◌, length, Some, None, sym, ap, ◌∙◌, subst, inl, inr, append-nil, arith, length-append}
+use Rattle.std.proofs.Common.{◌≡◌, ℕ, suc, List, [], ◌∷◌, ◌++◌, length, None, sym, ap, ◌∙◌, subst, inl, inr, append-nil, arith, length-append, Bool, true, false, true-eqb, false-eqb}
+use Rattle.std.specs.Bool.{then_some, ◌==◌}
 use Rattle.std.proofs.lemmas.List.{nil_from_length}
 use Rattle.labels.specs.Text.{PrefixFree, Begins}
 use Rattle.text.specs.Questions.{WrongLabel, Given, Taken, FirstWrong}
@@ -9,16 +10,16 @@ use Rattle.text.specs.declared.questions.Fault.{Fault}
 -- A word and the label read off its front.
 
 module _ {L : Type 0} (text : L → List ℕ) (word : List ℕ) where
-  pub whole_word : (a : L) (n : ℕ) → Begins text word a → n ≡ length (text a) → n ≡ length word → Names text word (Some a)
-  whole_word a n (rest, e) size all = e ∙ ap (λ l. text a ++ l) (nil_from_length rest (omega (arith, ap length e ∙ length-append (text a) rest))) ∙ append-nil (text a)
-
   pub no_word : ((a : L) → Begins text word a → ⊥) → Names text word None
   no_word none a e = none a ([], e ∙ sym (append-nil (text a)))
 
-  pub part_word : PrefixFree text → (a : L) (n : ℕ) → Begins text word a → n ≡ length (text a) → (n ≡ length word → ⊥) → Names text word None
-  part_word free a n (rest, e) size part b is =
+  -- a label, if nothing comes behind its text
+  pub whole_word : PrefixFree text → (a : L) (rest : List ℕ) → word ≡ text a ++ rest → (all : Bool) → all ≡ (length rest == 0) → Names text word (then_some all a)
+  whole_word free a rest e true all = e ∙ ap (λ l. text a ++ l) (nil_from_length rest (true-eqb _ 0 all)) ∙ append-nil (text a)
+  whole_word free a rest e false all =
+      λ b is.
       let same : a ≡ b = free a b rest [] (sym e ∙ is ∙ sym (append-nil (text b))) in
-      part (size ∙ ap (λ x. length (text x)) same ∙ ap length (sym is))
+      omega (arith, false-eqb _ 0 all, ap length (sym e ∙ is) ∙ ap (λ y. length (text y)) (sym same), length-append (text a) rest)
 
 -- One word more.
 

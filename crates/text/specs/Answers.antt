@@ -3,7 +3,7 @@ use Rattle.std.specs.Prelude.{◌≡◌, ℕ, List, [], ◌++◌, Some, None, Ok
 use Rattle.rules.specs.Tables.{Table}
 use Rattle.rules.specs.declared.Request.{Request}
 use Rattle.rules.specs.declared.Verdict.{Verdict}
-use Rattle.text.specs.Operations.{name}
+use Rattle.rules.specs.Texts.{request_text, verdict_text}
 use Rattle.text.specs.Questions.{Asks, Wrong}
 use Rattle.text.specs.Words.{uncommented, words}
 use Rattle.text.specs.declared.questions.Answer.{Answer}
@@ -27,12 +27,9 @@ AnswersByTable {P} {L} faithful before r after = (t : Table L) → faithful befo
 
 -- the text of an answer: the whole request, then the verdict
 module _ {L : Type 0} (text : L → List ℕ) where
-  abbrev pub verdict_text : Option (Verdict L) → List ℕ
-  verdict_text None = codes ": forbidden"
-  verdict_text (Some v) = codes ": pc " ++ (text v.pc ++ (codes ", result " ++ text v.result))
-
-  abbrev pub request_text : Request L → List ℕ
-  request_text q = name q.op ++ (codes " " ++ (text q.pc ++ (codes " " ++ (text q.a ++ (codes " " ++ (text q.b ++ (codes " " ++ text q.c)))))))
+  abbrev pub ruled_text : Option (Verdict L) → List ℕ
+  ruled_text None = codes ": forbidden"
+  ruled_text (Some v) = codes ": " ++ verdict_text text v
 
   abbrev pub answer_text : Answer L → List ℕ
-  answer_text x = request_text x.request ++ verdict_text x.verdict
+  answer_text x = request_text text x.request ++ ruled_text x.verdict

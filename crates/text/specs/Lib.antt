@@ -1,4 +1,3 @@
-pub mod Operations
 pub mod Words
 pub mod Questions
 pub mod Answers

@@ -3,7 +3,7 @@ use Rattle.std.specs.Prelude.{◌≡◌, ℕ, zero, suc, ◌⊎◌, List, [], �
 use Rattle.std.specs.Borrow.{Bor}
 use Rattle.rules.specs.declared.Opcode.{Opcode}
 use Rattle.rules.specs.declared.Request.{Request}
-use Rattle.text.specs.Operations.{name}
+use Rattle.rules.specs.Texts.{name}
 use Rattle.text.specs.Words.{words, Names}
 use Rattle.text.specs.declared.questions.Fault.{Fault}
 use Rattle.text.specs.declared.questions.Fault.TheVariants.{Operation, Label, Extra}
@@ -13,6 +13,11 @@ abbrev pub NoOperation : List ℕ → Fault → Type 0
 NoOperation word (Operation x) = (x.now ≡ word) × Names name word None
 NoOperation word (Label x) = ⊥
 NoOperation word (Extra x) = ⊥
+
+-- the operation of that name, or the fault that it is none's
+abbrev pub NamesOperation : List ℕ → Result Opcode Fault → Type 0
+NamesOperation word (Ok op) = Names name word (Some op)
+NamesOperation word (Err f) = NoOperation word f
 
 -- the fault is that the word is one too many
 abbrev pub OneTooMany : List ℕ → Fault → Type 0

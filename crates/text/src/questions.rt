@@ -1,16 +1,15 @@
 ghost use Rattle.std.specs.Prelude.{Some};
-ghost use Rattle.std.specs.Fmt.{WritesOnOk};
-ghost use Rattle.text.specs.Answers.{Answers, AnswersByTable, request_text, verdict_text, answer_text};
-ghost use Rattle.text.specs.Questions.{NextLabel, ReadsQuestion};
+ghost use Rattle.text.specs.Answers.{Answers, AnswersByTable, answer_text};
+ghost use Rattle.text.specs.Questions.{NamesOperation, NextLabel, ReadsQuestion};
 ghost use Rattle.text.specs.Words.{Names};
 
-use crate::{before_comment, name_of, next_word, operation_named};
-use labels::{Label, Shown};
-use rules::{Policy, Request, Verdict};
+use crate::{before_comment, next_word};
+use labels::Label;
+use rules::{Opcode, Policy, Request, Verdict};
 use std::fmt;
 
 // What is wrong with a question: the word that is no operation's name, or no label's text, or one too many.
-#[derive(Clone, Copy)]
+#[derive(Clone, Copy, Debug, PartialEq, Eq, Hash)]
 pub enum Fault<'a> {
     Operation(&'a str),
     Label(&'a str),
@@ -18,7 +17,7 @@ pub enum Fault<'a> {
 }
 
 // A question and its verdict.
-#[derive(Clone, Copy)]
+#[derive(Clone, Copy, Debug, PartialEq, Eq, Hash)]
 pub struct Answer<L> {
     pub request: Request<L>,
     pub verdict: Option<Verdict<L>>,
@@ -46,9 +45,7 @@ pub fn read_request<L: Label>(line: &str) -> Result<Option<Request<L>>, Fault<'_
     let Some((word, rest)) = next_word(line) else {
         return Ok(None);
     };
-    let Some(op) = operation_named(word) else {
-        return Err(Fault::Operation(word));
-    };
+    let op = operation_named(word)?;
     let (pc, rest) = next_label(rest)?;
     let (a, rest) = next_label(rest)?;
     let (b, rest) = next_label(rest)?;
@@ -59,6 +56,13 @@ pub fn read_request<L: Label>(line: &str) -> Result<Option<Request<L>>, Fault<'_
     Ok(Some(Request { op, pc, a, b, c }))
 }
 
+// The operation of that name.
+fn operation_named(word: &str) -> Result<Opcode, Fault<'_>>
+    ensures { NamesOperation word.now result }
+{
+    word.parse().map_err(|_| Fault::Operation(word))
+}
+
 // The next label, bottom where no word is left, and what comes after it.
 fn next_label<L: Label>(line: &str) -> Result<(L, &str), Fault<'_>>
     ensures { NextLabel L.Label.text L.Label.kind.bottom line.now result }
@@ -66,59 +70,25 @@ fn next_label<L: Label>(line: &str) -> Result<(L, &str), Fault<'_>>
     let Some((word, rest)) = next_word(line) else {
         return Ok((L::bottom(), line));
     };
-    match label_named(word) {
-        Some(label) => Ok((label, rest)),
-        None => Err(Fault::Label(word)),
-    }
+    let label = label_named(word).ok_or(Fault::Label(word))?;
+    Ok((label, rest))
 }
 
 // The label whose text the word is, if any.
 pub fn label_named<L: Label>(word: &str) -> Option<L>
     ensures { Names L.Label.text word.now result }
 {
-    let reading = L::read(word.as_bytes())?;
-    if reading.length == word.len() {
-        Some(reading.label)
-    } else {
-        None
-    }
+    let (label, rest) = L::read(word.as_bytes())?;
+    rest.is_empty().then_some(label)
 }
 
 impl<L: Label> fmt::Display for Answer<L> {
     ghost output = { λ x. Some (answer_text L.Label.text x) };
 
     fn fmt<W: fmt::Write>(&self, f: &mut fmt::Formatter<W>) -> fmt::Result {
-        write_request(self.request, f)?;
-        write_verdict(self.verdict, f)
-    }
-}
-
-fn write_request<L: Label, W: fmt::Write>(
-    request: Request<L>,
-    f: &mut fmt::Formatter<W>,
-) -> fmt::Result
-    ensures { WritesOnOk W.Write.write_str_gives f.old result (request_text L.Label.text request) f.new }
-{
-    let Request { op, pc, a, b, c } = request;
-    let name = name_of(op);
-    write!(
-        f,
-        "{name} {} {} {} {}",
-        Shown(pc),
-        Shown(a),
-        Shown(b),
-        Shown(c)
-    )
-}
-
-fn write_verdict<L: Label, W: fmt::Write>(
-    verdict: Option<Verdict<L>>,
-    f: &mut fmt::Formatter<W>,
-) -> fmt::Result
-    ensures { WritesOnOk W.Write.write_str_gives f.old result (verdict_text L.Label.text verdict) f.new }
-{
-    match verdict {
-        Some(v) => write!(f, ": pc {}, result {}", Shown(v.pc), Shown(v.result)),
-        None => write!(f, ": forbidden"),
+        match self.verdict {
+            Some(verdict) => write!(f, "{}: {verdict}", self.request),
+            None => write!(f, "{}: forbidden", self.request),
+        }
     }
 }

@@ -17,7 +17,7 @@ wrong_from_last g c f wrong =
     wrong_more text bottom _ _ _ 3 f c.in_ok-pc.ensures
     (wrong_more text bottom _ _ _ 2 f c.in_ok-a.ensures
     (wrong_more text bottom _ _ _ 1 f c.in_ok-b.ensures wrong)) in
-    rw c.in-Some.ensures.0 (inr ((c.in-Some-operation_named.op, c.in-Some-operation_named.ensures), labels))
+    rw c.in-Some.ensures.0 (inr ((c.in_ok-op.op, c.in_ok-op.ensures), labels))
 
 pub returns-in_err-c : goal.returns-in_err-c
 returns-in_err-c g c =
@@ -39,4 +39,4 @@ returns g c =
     (given_more text bottom _ _ _ _ c.in_ok-a.ensures
     (given_more text bottom _ _ _ _ c.in_ok-b.ensures
     (given_more text bottom _ _ _ _ c.in_ok-c.ensures last))) in
-    rw c.in-Some.ensures.0 (c.in-Some-operation_named.ensures, given)
+    rw c.in-Some.ensures.0 (c.in_ok-op.ensures, given)

@@ -1,7 +1,9 @@
--- The names of the operations. Assumes nothing.
-use Rattle.std.specs.Prelude.{◌≡◌, ◌≢◌, ℕ, List, Ok, Err, codes, Result}
+-- How operations, requests and verdicts read. Assumes nothing.
+use Rattle.std.specs.Prelude.{◌≡◌, ◌≢◌, ℕ, List, ◌++◌, Ok, Err, codes, Result}
 use Rattle.rules.specs.declared.Opcode.{Opcode}
-use Rattle.rules.specs.declared.names.NotAnOperation.{NotAnOperation}
+use Rattle.rules.specs.declared.Request.{Request}
+use Rattle.rules.specs.declared.Verdict.{Verdict}
+use Rattle.rules.specs.declared.texts.NotAnOperation.{NotAnOperation}
 use Rattle.rules.specs.declared.Opcode.TheVariants.{Push, Pop, Noop, Add, Sub, Less, Load, Store, Jump, Bnz, Call, Return, Output}
 
 abbrev pub name : Opcode → List ℕ
@@ -23,3 +25,11 @@ name Output = codes "output"
 abbrev pub NameRead : List ℕ → Result Opcode NotAnOperation → Type 0
 NameRead word (Ok op) = word ≡ name op
 NameRead word (Err e) = (op : Opcode) → word ≢ name op
+
+module _ {L : Type 0} (text : L → List ℕ) where
+  -- the whole request
+  abbrev pub request_text : Request L → List ℕ
+  request_text q = name q.op ++ (codes " " ++ (text q.pc ++ (codes " " ++ (text q.a ++ (codes " " ++ (text q.b ++ (codes " " ++ text q.c)))))))
+
+  abbrev pub verdict_text : Verdict L → List ℕ
+  verdict_text v = codes "pc " ++ (text v.pc ++ (codes ", result " ++ text v.result))

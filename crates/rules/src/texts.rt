@@ -1,8 +1,9 @@
-// The names of the operations.
+// How operations, requests and verdicts read.
 ghost use Rattle.std.specs.Prelude.{Some};
-ghost use Rattle.rules.specs.Names.{name, NameRead};
+ghost use Rattle.rules.specs.Texts.{name, NameRead, request_text, verdict_text};
 
-use crate::Opcode;
+use crate::{Opcode, Request, Verdict};
+use labels::Label;
 use std::error::Error;
 use std::fmt;
 use std::str::FromStr;
@@ -66,3 +67,21 @@ impl fmt::Display for NotAnOperation {
 }
 
 impl Error for NotAnOperation {}
+
+impl<L: Label> fmt::Display for Request<L> {
+    ghost output = { λ q. Some (request_text L.Label.text q) };
+
+    fn fmt<W: fmt::Write>(&self, f: &mut fmt::Formatter<W>) -> fmt::Result {
+        let Request { op, pc, a, b, c } = self;
+        write!(f, "{op} {pc} {a} {b} {c}")
+    }
+}
+
+impl<L: Label> fmt::Display for Verdict<L> {
+    ghost output = { λ v. Some (verdict_text L.Label.text v) };
+
+    fn fmt<W: fmt::Write>(&self, f: &mut fmt::Formatter<W>) -> fmt::Result {
+        let Verdict { pc, result } = self;
+        write!(f, "pc {pc}, result {result}")
+    }
+}

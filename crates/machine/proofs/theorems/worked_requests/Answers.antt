@@ -1,7 +1,0 @@
-use Rattle.std.proofs.Common.{refl}
-use Rattle.std.specs.Int.{int_wrap}
-use Rattle.machine.proofs.theorems.worked_requests.Goals as goal
-
-pub returns : goal.returns
-unfolding int_wrap
-returns c = refl
