@@ -1,5 +1,5 @@
 // How operations, requests and verdicts read.
-ghost use Rattle.std.specs.Prelude.{Some};
+ghost use Rattle.std.specs.Prelude.{◌≡◌, Some};
 ghost use Rattle.rules.specs.Texts.{name, NameRead, request_text, verdict_text};
 
 use crate::{Opcode, Request, Verdict};
@@ -8,11 +8,11 @@ use std::error::Error;
 use std::fmt;
 use std::str::FromStr;
 
-impl fmt::Display for Opcode {
-    ghost output = { λ op. Some (name op) };
-
-    fn fmt<W: fmt::Write>(&self, f: &mut fmt::Formatter<W>) -> fmt::Result {
-        f.write_str(match self {
+impl Opcode {
+    pub fn name(self) -> &'static str
+        ensures { result.now ≡ name self }
+    {
+        match self {
             Opcode::Push => "push",
             Opcode::Pop => "pop",
             Opcode::Noop => "noop",
@@ -26,7 +26,15 @@ impl fmt::Display for Opcode {
             Opcode::Call => "call",
             Opcode::Return => "return",
             Opcode::Output => "output",
-        })
+        }
+    }
+}
+
+impl fmt::Display for Opcode {
+    ghost output = { λ op. Some (name op) };
+
+    fn fmt<W: fmt::Write>(&self, f: &mut fmt::Formatter<W>) -> fmt::Result {
+        f.write_str(self.name())
     }
 }
 
