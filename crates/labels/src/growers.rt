@@ -1,4 +1,4 @@
-ghost use Rattle.std.specs.Prelude.{◌≡◌, ℕ, ◌<◌, true, ◌==◌, bit_or, Some, refl};
+ghost use Rattle.std.specs.Prelude.{◌≡◌, ◌↔◌, ℕ, ◌<◌, IsTrue, ◌==◌, bit_or, Some, refl};
 ghost use Rattle.labels.specs.Growers.{grower_sets, grower_text, In, Within, Unites, hex, HexDigit};
 ghost use Rattle.labels.specs.Masks.{grower_laws};
 ghost use Rattle.labels.specs.PrefixFree.{growers_prefix_free};
@@ -23,7 +23,7 @@ impl Label for Growers {
 
     fn flows_to(self, other: Growers) -> bool
         ensures below { result ≡ grower_sets.below self other }
-        ensures inclusion { (result ≡ true → Within self other) × (Within self other → result ≡ true) }
+        ensures inclusion { IsTrue result ↔ Within self other }
     {
         included(self.mask, other.mask)
     }

@@ -1,7 +1,7 @@
 // Kinds of label: who may know a number. Each kind has an order, a least label, a join and a text, and proves their laws.
 #![tactic(auto)]
 
-ghost use Rattle.std.specs.Prelude.{◌≡◌, ℕ, true, List};
+ghost use Rattle.std.specs.Prelude.{◌≡◌, ◌↔◌, ℕ, IsTrue, List};
 ghost use Rattle.labels.specs.Kind.{Kind, Lawful};
 ghost use Rattle.labels.specs.Text.{PrefixFree, Reads, Shows};
 
@@ -49,7 +49,7 @@ pub trait Label: Copy + fmt::Display {
 
 // Whether two labels of any kind are the same, by the order both ways.
 pub fn same<L: Label>(a: L, b: L) -> bool
-    ensures { (result ≡ true → a ≡ b) × (a ≡ b → result ≡ true) }
+    ensures { IsTrue result ↔ (a ≡ b) }
 {
     a.flows_to(b) && b.flows_to(a)
 }

@@ -1,7 +1,7 @@
 // Rule policies: which labels an operation gives its results and the program counter, or that it is forbidden.
 #![tactic(auto)]
 
-ghost use Rattle.std.specs.Prelude.{◌≡◌, true, Option};
+ghost use Rattle.std.specs.Prelude.{◌≡◌, ◌↔◌, IsTrue, Option};
 ghost use Rattle.rules.specs.Rows.{refused};
 ghost use Rattle.rules.specs.declared.Request.{Request};
 ghost use Rattle.rules.specs.declared.Verdict.{Verdict};
@@ -71,7 +71,7 @@ pub trait Policy<L: Label> {
 impl<L: Label> Request<L> {
     // Whether two requests are the same. Not by a derived `==`, which would ask every kind of label for an equality of its own.
     pub fn same_as(self, other: Request<L>) -> bool
-        ensures { (result ≡ true → self ≡ other) × (self ≡ other → result ≡ true) }
+        ensures { IsTrue result ↔ (self ≡ other) }
     {
         self.op == other.op
             && same(self.pc, other.pc)
