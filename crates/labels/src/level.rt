@@ -1,4 +1,5 @@
-ghost use Rattle.std.specs.Prelude.{Some};
+ghost use Rattle.std.specs.Prelude.{Some, ◌++◌, codes};
+ghost use Rattle.std.specs.Fmt.{decimal};
 ghost use Rattle.labels.specs.Level.{levels, level_text, LevelDigit};
 ghost use Rattle.std.proofs.Common.{rules};
 
@@ -83,6 +84,8 @@ impl fmt::Display for Level {
 }
 
 impl fmt::Display for NotALevel {
+    ghost output = { λ e. Some (codes "byte " ++ (decimal e.0 ++ codes " is no digit of a level")) };
+
     fn fmt<W: fmt::Write>(&self, f: &mut fmt::Formatter<W>) -> fmt::Result {
         write!(f, "byte {} is no digit of a level", self.0)
     }

@@ -1,5 +1,5 @@
 // How operations, requests and verdicts read.
-ghost use Rattle.std.specs.Prelude.{◌≡◌, Some};
+ghost use Rattle.std.specs.Prelude.{◌≡◌, Some, codes};
 ghost use Rattle.rules.specs.Texts.{name, NameRead, request_text, verdict_text};
 
 use crate::{Opcode, Request, Verdict};
@@ -69,6 +69,8 @@ impl FromStr for Opcode {
 }
 
 impl fmt::Display for NotAnOperation {
+    ghost output = { λ _. Some (codes "no operation has this name") };
+
     fn fmt<W: fmt::Write>(&self, f: &mut fmt::Formatter<W>) -> fmt::Result {
         f.write_str("no operation has this name")
     }
