@@ -74,3 +74,9 @@ fn texts_are_written_in_full(rt: HostRuntime) -> Result<(), Fail> {
     assert_eq!(rt; text.as_str(), "50a0f");
     Ok(())
 }
+
+#[test]
+fn digits_are_levels(rt: HostRuntime) {
+    assert_eq!(rt; Level::try_from(b'7'), Ok(Level::L7));
+    assert_eq!(rt; Level::try_from(b'8'), Err(NotALevel(b'8')));
+}

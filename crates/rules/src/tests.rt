@@ -5,6 +5,7 @@ ghost use Rattle.rules.specs.Tables.{Obeys};
 use super::*;
 use labels::Level;
 use std::process::Abort;
+use std::test::Fail;
 
 fn request(op: Opcode, pc: Level, a: Level, b: Level, c: Level) -> Request<Level> {
     Request { op, pc, a, b, c }
@@ -95,4 +96,24 @@ fn cache_asks_below_only_on_a_miss(rt: HostRuntime) {
     assert!(rt; policy.below.count == 2, "told another, it asks below");
     assert!(rt; is(policy.rule(first), Level::L2, Level::L0));
     assert!(rt; policy.below.count == 3, "it remembers one request only");
+}
+
+#[test]
+fn operations_are_read_by_name(rt: HostRuntime) -> Result<(), Fail> {
+    assert_eq!(rt; "bnz".parse::<Opcode>()?, Opcode::Bnz);
+    assert_eq!(rt; "BNZ".parse::<Opcode>(), Err(NotAnOperation));
+    assert_eq!(rt; Opcode::Noop.name(), "noop");
+    Ok(())
+}
+
+#[test]
+fn requests_and_verdicts_are_written_in_full(rt: HostRuntime) -> Result<(), Fail> {
+    let asked = request(Opcode::Store, Level::L1, Level::L2, Level::L0, Level::L5);
+    assert_eq!(rt; asked.to_string(rt.alloc())?.as_str(), "store 1 2 0 5");
+    let ruled = Verdict {
+        pc: Level::L1,
+        result: Level::L2,
+    };
+    assert_eq!(rt; ruled.to_string(rt.alloc())?.as_str(), "pc 1, result 2");
+    Ok(())
 }

@@ -74,7 +74,7 @@ fn next_label<L: Label>(line: &str) -> Result<(L, &str), Fault<'_>>
     Ok((label, rest))
 }
 
-// The label whose text the word is, if any.
+// The label whose text the word is, if any. Not by `FromStr`, which every kind of label would have to write beside `read`.
 pub fn label_named<L: Label>(word: &str) -> Option<L>
     ensures { Names L.Label.text word.now result }
 {
