@@ -1,2 +1,3 @@
 pub mod Hits
 pub mod Published
+pub mod Names

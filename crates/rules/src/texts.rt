@@ -8,6 +8,23 @@ use std::error::Error;
 use std::fmt;
 use std::str::FromStr;
 
+// Every operation.
+const ALL: [Opcode; 13] = [
+    Opcode::Push,
+    Opcode::Pop,
+    Opcode::Noop,
+    Opcode::Add,
+    Opcode::Sub,
+    Opcode::Less,
+    Opcode::Load,
+    Opcode::Store,
+    Opcode::Jump,
+    Opcode::Bnz,
+    Opcode::Call,
+    Opcode::Return,
+    Opcode::Output,
+];
+
 impl Opcode {
     pub fn name(self) -> &'static str
         ensures { result.now ≡ name self }
@@ -47,24 +64,11 @@ impl FromStr for Opcode {
 
     ghost from_str_gives = { NameRead };
 
-    // The names again: a search through them would need a list of all operations, which is no shorter.
     fn from_str(word: &str) -> Result<Opcode, NotAnOperation> {
-        match word {
-            "push" => Ok(Opcode::Push),
-            "pop" => Ok(Opcode::Pop),
-            "noop" => Ok(Opcode::Noop),
-            "add" => Ok(Opcode::Add),
-            "sub" => Ok(Opcode::Sub),
-            "less" => Ok(Opcode::Less),
-            "load" => Ok(Opcode::Load),
-            "store" => Ok(Opcode::Store),
-            "jump" => Ok(Opcode::Jump),
-            "bnz" => Ok(Opcode::Bnz),
-            "call" => Ok(Opcode::Call),
-            "return" => Ok(Opcode::Return),
-            "output" => Ok(Opcode::Output),
-            _ => Err(NotAnOperation),
-        }
+        ALL.iter()
+            .find(|op| op.name() == word)
+            .copied()
+            .ok_or(NotAnOperation)
     }
 }
 
