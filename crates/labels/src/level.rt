@@ -79,6 +79,7 @@ impl fmt::Display for Level {
     ghost output = { λ x. Some (level_text x) };
 
     fn fmt<W: fmt::Write>(&self, f: &mut fmt::Formatter<W>) -> fmt::Result {
+        // The number of a level is its digit.
         f.write_char(char::from(b'0' + *self as u8))
     }
 }

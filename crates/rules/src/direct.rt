@@ -32,7 +32,7 @@ impl<L: Label> Policy<L> for Direct {
     }
 }
 
-// The published rows.
+// The published rows, in one match: a table of closures would only wrap its arms.
 fn work_out<L: Label>(request: Request<L>) -> Option<Verdict<L>>
     ensures { result ≡ published L.Label.kind request }
 {
