@@ -1,156 +1,126 @@
--- Runs of blanks and the words between them. Assumes nothing.
-use Rattle.std.proofs.Common.{◌≡◌, ℕ, zero, suc, ◌<◌, ◌≤◌, Bool, true, false, cond, not, List, [], ◌∷◌, length, get_or, take, drop, IsUtf8, sym, refl, ap, ◌∙◌, subst, ap₂, ⊎_elim, add-one, arith, drop-cons}
-use mathlib.Core.Bool.{beq}
-use Rattle.std.proofs.lemmas.List.{drop_all, nil_from_length}
-use Rattle.std.proofs.lemmas.Bool.{cases_Bool, eq-eqb, ne_eqb}
-use Rattle.std.proofs.lemmas.Str.{IsCharBoundary-start, IsCharBoundary-end, IsCharBoundary-before_ascii, IsCharBoundary-after_ascii}
-use Rattle.std.proofs.str.Laws.{order}
-use Rattle.std.specs.Str.{IsCharBoundary}
-use Rattle.text.specs.Words.{blank, uncommented, word, words_in, words, trimmed, behind, run}
+-- Blanks, the words between them, and what stands before a comment. Assumes nothing.
+use Rattle.std.proofs.Common.{◌≡◌, ℕ, suc, ◌+◌, ◌<◌, Bool, true, false, cond, not, Option, Some, None, List, [], ◌∷◌, ◌++◌, length, get_or, take, drop, length-take, refl, sym, ap, ◌∙◌, subst, ⊎_elim, MatchOption, unwrap_or, arith, lit<, eqb}
+use Rattle.std.proofs.lemmas.Bool.{cases_Bool, both_ways}
+use Rattle.std.proofs.lemmas.Bool.Decides.{nat_tests}
+use Rattle.std.proofs.lemmas.List.{nil_from_length, take_all, get_or-take}
+use Rattle.std.proofs.lemmas.List.Sums.{position_or_len_is}
+use Rattle.std.proofs.lemmas.Str.{NoCharPasses-byte, encode_ascii, len_utf8_bounds}
+use Rattle.std.proofs.lemmas.Str.Pattern.{drop_at_char, IsSplitOnceResult, split_once_first}
+use Rattle.std.specs.Borrow.{Bor}
+use Rattle.std.specs.Char.{char_set_contains, IsScalar}
+use Rattle.std.specs.List.{position_or_len, before_first}
+use Rattle.std.specs.Str.{NoCharPasses}
+use Rattle.std.specs.Str.Pattern.{FindsBy, FindsPrefixBy, CutsPrefixes, IsTrimStartMatches, MatchBeginsAt}
+use Rattle.text.specs.Words.{blank, uncommented, word, words_in, words, trimmed, behind}
 
--- A run of bytes of one sort: `of blanks b` says that b is of the sort.
+-- A blank is what the code's list of blanks has, and is ASCII.
 
-abbrev of : Bool → ℕ → Bool
-of blanks b = cond (blank b) blanks (not blanks)
+is_blank : (c : ℕ) → char_set_contains (32 ∷ 9 ∷ 13 ∷ []) c ≡ blank c
+is_blank c = grind (arith, nat_tests)
 
-same_sort : (t blanks : Bool) → not (beq t blanks) ≡ false → cond t blanks (not blanks) ≡ true
-same_sort true true e = refl
-same_sort true false e = sym e
-same_sort false true e = sym e
-same_sort false false e = refl
-
-other_sort : (t blanks : Bool) → not (beq t blanks) ≡ true → cond t blanks (not blanks) ≡ false
-other_sort true true e = sym e
-other_sort true false e = refl
-other_sort false true e = refl
-other_sort false false e = sym e
-
--- one byte more, the first of the other sort, and no byte more
-module _ (blanks : Bool) (bs : List ℕ) (i : ℕ) where
-  pub run_more : (t : Bool) → i < length bs → t ≡ blank (get_or bs i 0) → not (beq t blanks) ≡ false → run blanks (drop i bs) ≡ suc (run blanks (drop (suc i) bs))
-  run_more t h is same = rw (drop-cons bs i 0, same_sort _ blanks (rw is at same))
-
-  pub run_over : (t : Bool) → i < length bs → t ≡ blank (get_or bs i 0) → not (beq t blanks) ≡ true → run blanks (drop i bs) ≡ 0
-  run_over t h is other = rw (drop-cons bs i 0, other_sort _ blanks (rw is at other))
-
-  pub run_none : length bs ≤ i → run blanks (drop i bs) ≡ 0
-  run_none h = rw (drop_all i bs h)
-
-run_within : (blanks : Bool) (bs : List ℕ) → run blanks bs ≤ length bs
-run_within blanks [] = omega arith
-run_within blanks (b ∷ bs) =
-    ⊎_elim (λ e. rw e (omega (arith, run_within blanks bs))) (λ e. rw e (omega arith)) (cases_Bool (of blanks b))
-
--- each byte of a run is of its sort, and the one after it is not
-run_sort : (blanks : Bool) (bs : List ℕ) (i : ℕ) → i < run blanks bs → of blanks (get_or bs i 0) ≡ true
-run_sort blanks [] i h = absurd (omega arith)
-run_sort blanks (b ∷ bs) zero h = ⊎_elim (λ e. e) (λ e. absurd (omega (arith, rw e at h))) (cases_Bool (of blanks b))
-run_sort blanks (b ∷ bs) (suc i) h =
-    ⊎_elim (λ e. run_sort blanks bs i (omega (arith, rw e at h))) (λ e. absurd (omega (arith, rw e at h))) (cases_Bool (of blanks b))
-
-run_ends : (blanks : Bool) (bs : List ℕ) → run blanks bs < length bs → of blanks (get_or bs (run blanks bs) 0) ≡ false
-run_ends blanks [] h = absurd (omega arith)
-run_ends blanks (b ∷ bs) h =
-    ⊎_elim (λ e. rw e (run_ends blanks bs (omega (arith, rw e at h)))) (λ e. rw e e) (cases_Bool (of blanks b))
-
--- a blank is ASCII
 blank_low : (b : ℕ) → blank b ≡ true → b < 128
-blank_low b e = grind (arith)
+blank_low b e = grind (arith, nat_tests)
 
-sort_blank : (t : Bool) → cond t true false ≡ true → t ≡ true
-sort_blank true e = refl
-sort_blank false e = e
+scalar_low : (b : ℕ) → b < 128 → IsScalar b
+scalar_low b h = grind (arith, nat_tests)
 
-sort_word : (t : Bool) → cond t false true ≡ false → t ≡ true
-sort_word true e = refl
-sort_word false e = sym e
+no_blank : (bs : List ℕ) (i : ℕ) → NoCharPasses blank bs → i < length bs → blank (get_or bs i 0) ≡ false
+no_blank bs i none h = ⊎_elim (λ e. NoCharPasses-byte blank bs i none h (blank_low _ e)) (λ e. e) (cases_Bool (blank (get_or bs i 0)))
 
--- No character is cut behind a run of blanks, or of none.
+-- What is left when the blanks at the front are cut off, one by one.
 
-after_blanks : (bs : List ℕ) → IsUtf8 bs → IsCharBoundary bs (run true bs)
-after_blanks bs u = at (run true bs) refl
-  where
-    at : (n : ℕ) → run true bs ≡ n → IsCharBoundary bs n
-    at zero e = IsCharBoundary-start bs u
-    at (suc n) e =
-        let inside : n < run true bs = omega arith in
-        let low = blank_low _ (sort_blank _ (run_sort true bs n inside)) in
-        subst (IsCharBoundary bs) (add-one n) (IsCharBoundary-after_ascii bs n u (omega (arith, run_within true bs)) low)
+-- o is the width of the blank at the front
+abbrev Front : List ℕ → Option ℕ → Type 0
+Front s o = (k : ℕ → Bool) → ((c : ℕ) → char_set_contains (32 ∷ 9 ∷ 13 ∷ []) c ≡ k c) → FindsPrefixBy k s o
 
-after_word : (bs : List ℕ) → IsCharBoundary bs (run false bs)
-after_word bs =
+one_cut : (s : List ℕ) (n : ℕ) → FindsPrefixBy blank s (Some n) → trimmed s ≡ trimmed (drop n s)
+one_cut s n (c, passes, at) = ap trimmed (drop_at_char c s 0 n at (blank_low c passes)) ∙ rw passes refl
+
+all_cut : (s ns r : List ℕ) → CutsPrefixes Front s ns r → trimmed s ≡ trimmed r
+all_cut s [] r is = ap trimmed (sym is)
+all_cut s (n ∷ ns) r (m, before, front, is) = all_cut s ns m before ∙ one_cut m n (front blank is_blank) ∙ ap trimmed (sym is)
+
+none_left : (r : List ℕ) → FindsPrefixBy blank r None → trimmed r ≡ r
+none_left [] h = refl
+none_left (b ∷ bs) h =
     ⊎_elim
-    (λ h. IsCharBoundary-before_ascii bs (run false bs) h (blank_low _ (sort_word _ (run_ends false bs h))))
-    (λ h. let e : length bs ≡ run false bs = omega (arith, run_within false bs) in subst (IsCharBoundary bs) e (IsCharBoundary-end bs))
-    (order (run false bs) (length bs))
+    (λ e. let low = blank_low b e in absurd (both_ways (blank b) (h b bs (scalar_low b low) (sym (ap (λ l. l ++ bs) (encode_ascii b low)))) e))
+    (λ e. rw e refl)
+    (cases_Bool (blank b))
 
-after_run : (blanks : Bool) (bs : List ℕ) → IsUtf8 bs → IsCharBoundary bs (run blanks bs)
-after_run true bs u = after_blanks bs u
-after_run false bs u = after_word bs
+pub trims : (s r : List ℕ) → IsTrimStartMatches Front s r → r ≡ trimmed s
+trims s r ((ns, cuts), (None, h, last)) = sym (all_cut s ns r cuts ∙ none_left r (h blank is_blank))
+trims s r ((ns, cuts), (Some n, h, nothing)) =
+    let (c, passes, at) = h blank is_blank in absurd (omega (arith, nothing, at.ends, len_utf8_bounds c))
 
-pub counted : (blanks : Bool) (text bytes : List ℕ) (n : ℕ) → bytes ≡ text → IsUtf8 bytes → n ≡ run blanks bytes → (n ≡ run blanks text) × IsCharBoundary text n
-counted blanks text bytes n same utf8 is =
-    let e : n ≡ run blanks text = is ∙ ap (run blanks) same in
-    (e, subst (IsCharBoundary text) (sym e) (after_run blanks text (subst IsUtf8 same utf8)))
+-- Where the first blank is, if there is one.
 
--- The words of a line, run by run.
+-- o is where it begins and ends
+abbrev First : List ℕ → Option (ℕ × ℕ) → Type 0
+First s o = (k : ℕ → Bool) → ((c : ℕ) → char_set_contains (32 ∷ 9 ∷ 13 ∷ []) c ≡ k c) → FindsBy k s o
 
-words_skip : (bs : List ℕ) → words bs ≡ words (drop (run true bs) bs)
-words_skip [] = refl
-words_skip (b ∷ bs) = ⊎_elim (λ e. rw e (words_skip bs)) (λ e. rw e (rw e refl)) (cases_Bool (blank b))
+pub ends : (s : List ℕ) (r : Option ℕ) → MatchOption r (First s None) (MatchBeginsAt First s) → position_or_len blank s ≡ unwrap_or r (length s)
+ends s None h = position_or_len_is blank s (length s) 0 (omega arith) (λ k lt. no_blank s k (h blank is_blank) lt) (λ lt. absurd (omega arith))
+ends s (Some i) (j, found, order, front, back) =
+    let (none, (c, passes, at)) = found blank is_blank in
+    position_or_len_is blank s i 0 front.0
+    (λ k lt. let here = no_blank (take i s) k none (omega (arith, length-take i s, front.0)) in rw get_or-take at here)
+    (λ lt. rw (at.byte (blank_low c passes)) passes)
 
-words_on : (bs : List ℕ) → words_in true bs ≡ words (drop (run false bs) bs)
+-- What goes up to the first byte that p takes, and what comes from the first blank on.
+
+take_on : (t : Bool) (b n : ℕ) (bs front : List ℕ) → front ≡ take n bs → cond t [] (b ∷ front) ≡ take (cond (not t) (1 + n) 0) (b ∷ bs)
+take_on true b n bs front e = refl
+take_on false b n bs front e = let more : suc n ≡ 1 + n = omega arith in subst (λ k. b ∷ front ≡ take k (b ∷ bs)) more (ap (λ l. b ∷ l) e)
+
+drop_on : (t : Bool) (b n : ℕ) (bs back : List ℕ) → back ≡ drop n bs → cond t (b ∷ bs) back ≡ drop (cond (not t) (1 + n) 0) (b ∷ bs)
+drop_on true b n bs back e = refl
+drop_on false b n bs back e = let more : suc n ≡ 1 + n = omega arith in subst (λ k. back ≡ drop k (b ∷ bs)) more e
+
+uncommented_first : (bs : List ℕ) → uncommented bs ≡ before_first (λ b. eqb b 35) bs
+uncommented_first [] = refl
+uncommented_first (b ∷ bs) = take_on (eqb b 35) b _ bs (uncommented bs) (uncommented_first bs)
+
+word_first : (bs : List ℕ) → word bs ≡ before_first blank bs
+word_first [] = refl
+word_first (b ∷ bs) = take_on (blank b) b _ bs (word bs) (word_first bs)
+
+behind_first : (bs : List ℕ) → behind bs ≡ drop (position_or_len blank bs) bs
+behind_first [] = refl
+behind_first (b ∷ bs) = drop_on (blank b) b _ bs (behind bs) (behind_first bs)
+
+-- The words of a line.
+
+words_on : (bs : List ℕ) → words_in true bs ≡ words (behind bs)
 words_on [] = refl
 words_on (b ∷ bs) = ⊎_elim (λ e. rw e (rw e refl)) (λ e. rw e (words_on bs)) (cases_Bool (blank b))
 
-word_taken : (bs : List ℕ) → word bs ≡ take (run false bs) bs
-word_taken [] = refl
-word_taken (b ∷ bs) = ⊎_elim (λ e. rw e refl) (λ e. rw e (ap (λ w. b ∷ w) (word_taken bs))) (cases_Bool (blank b))
+words_trimmed : (bs : List ℕ) → words bs ≡ words (trimmed bs)
+words_trimmed [] = refl
+words_trimmed (b ∷ bs) = ⊎_elim (λ e. rw e (words_trimmed bs)) (λ e. rw e (rw e refl)) (cases_Bool (blank b))
 
-first : (bs : List ℕ) → 0 < length bs → blank (get_or bs 0 0) ≡ false → words bs ≡ take (run false bs) bs ∷ words (drop (run false bs) bs)
-first [] h e = absurd (omega arith)
-first (b ∷ bs) h e = rw (← word_taken (b ∷ bs)) (rw e (ap (λ ws. (b ∷ word bs) ∷ ws) (words_on bs)))
+first_word : (bs : List ℕ) → 0 < length (trimmed bs) → words bs ≡ word (trimmed bs) ∷ words (behind (trimmed bs))
+first_word [] h = absurd (omega arith)
+first_word (b ∷ bs) h =
+    ⊎_elim
+    (λ e. rw e (first_word bs (rw e at h)))
+    (λ e. rw e (rw e (ap (λ ws. (b ∷ word bs) ∷ ws) (words_on bs))))
+    (cases_Bool (blank b))
 
-starts : (bs : List ℕ) → 0 < length (drop (run true bs) bs) → blank (get_or (drop (run true bs) bs) 0 0) ≡ false
-starts [] h = absurd (omega arith)
-starts (b ∷ bs) h = ⊎_elim (λ e. rw e (starts bs (rw e at h))) (λ e. rw e e) (cases_Bool (blank b))
-
-trims : (bs : List ℕ) → drop (run true bs) bs ≡ trimmed bs
-trims [] = refl
-trims (b ∷ bs) = ⊎_elim (λ e. rw e (trims bs)) (λ e. rw e refl) (cases_Bool (blank b))
-
-leaves : (bs : List ℕ) → drop (run false bs) bs ≡ behind bs
-leaves [] = refl
-leaves (b ∷ bs) = ⊎_elim (λ e. rw e refl) (λ e. rw e (leaves bs)) (cases_Bool (blank b))
-
--- The line without its blanks, `rest`, is empty, or a word comes first.
-module _ (line rest : List ℕ) (n : ℕ) (blanks : n ≡ run true line) (back : rest ≡ drop n line) where
-  here : rest ≡ drop (run true line) line
-  here = back ∙ ap (λ k. drop k line) blanks
-
-  skipped : words line ≡ words rest
-  skipped = words_skip line ∙ ap words (sym here)
-
+module _ (line rest : List ℕ) (is : rest ≡ trimmed line) where
   pub no_words : length rest ≡ 0 → words line ≡ []
-  no_words e = skipped ∙ ap words (nil_from_length rest e)
+  no_words e = words_trimmed line ∙ ap words (sym is ∙ nil_from_length rest e)
 
-  module _ (m : ℕ) (front more : List ℕ) (is : m ≡ run false rest) (taken : front ≡ take m rest) (dropped : more ≡ drop m rest) where
-    pub next : 0 < length rest → words line ≡ front ∷ words more
-    next some =
-        let dark = rw (← here) at (starts line (subst (λ (l : List ℕ). 0 < length l) here some)) in
-        skipped ∙ first rest some dark ∙ ap₂ (λ x y. x ∷ words y) (sym (taken ∙ ap (λ k. take k rest) is)) (sym (dropped ∙ ap (λ k. drop k rest) is))
-
-    pub after : more ≡ behind (trimmed line)
-    after = dropped ∙ ap (λ k. drop k rest) is ∙ leaves rest ∙ ap behind (here ∙ trims line)
+  pub next : (end : ℕ) (front more : List ℕ) → end ≡ position_or_len blank rest → front ≡ take end rest → more ≡ drop end rest
+      → 0 < length rest → (words line ≡ front ∷ words more) × (more ≡ behind (trimmed line))
+  next end front more at taken dropped some =
+      let first : front ≡ word (trimmed line) = taken ∙ ap (λ k. take k rest) at ∙ sym (word_first rest) ∙ ap word is in
+      let after : more ≡ behind (trimmed line) = dropped ∙ ap (λ k. drop k rest) at ∙ sym (behind_first rest) ∙ ap behind is in
+      (rw (first, after) (first_word line (subst (λ (l : List ℕ). 0 < length l) is some)), after)
 
 -- What stands before the comment.
-
-pub cut : (bs : List ℕ) (k : ℕ) → k < length bs → get_or bs k 0 ≡ 35 → ((i : ℕ) → i < k → get_or bs i 0 ≡ 35 → ⊥) → take k bs ≡ uncommented bs
-cut [] k h here before = absurd (omega arith)
-cut (b ∷ bs) zero h here before = rw (eq-eqb b 35 here) refl
-cut (b ∷ bs) (suc k) h here before =
-    rw (ne_eqb b 35 (before 0 (omega arith))) (ap (λ l. b ∷ l) (cut bs k (omega arith) here (λ i lt. before (suc i) (omega arith))))
-
-pub uncut : (bs : List ℕ) → ((i : ℕ) → i < length bs → get_or bs i 0 ≡ 35 → ⊥) → bs ≡ uncommented bs
-uncut [] none = refl
-uncut (b ∷ bs) none = rw (ne_eqb b 35 (none 0 (omega arith))) (ap (λ l. b ∷ l) (uncut bs (λ i lt. none (suc i) (omega arith))))
+pub before : (line rest : List ℕ) (o : Option (Bor (List ℕ) × Bor (List ℕ))) → IsSplitOnceResult 35 line o → MatchOption o (rest ≡ line) (λ x. rest ≡ x.0.now) → rest ≡ uncommented line
+before line rest None h is =
+    let none = split_once_first 35 line None h (lit< tt) in
+    is ∙ sym (uncommented_first line ∙ take_all _ line (omega (arith, none)))
+before line rest (Some x) h is = is ∙ (split_once_first 35 line (Some x) h (lit< tt)).1 ∙ sym (uncommented_first line)

@@ -1,5 +1,5 @@
 -- Lines: what stands before a comment, and the words. Assumes nothing.
-use Rattle.std.specs.Prelude.{◌≡◌, ℕ, suc, Bool, true, false, cond, not, ◌||◌, List, [], ◌∷◌, Some, None, Option, ◌==◌, ◌≢◌}
+use Rattle.std.specs.Prelude.{◌≡◌, ℕ, Bool, true, false, cond, ◌||◌, List, [], ◌∷◌, Some, None, Option, ◌==◌, ◌≢◌}
 use Rattle.std.specs.Borrow.{Bor}
 
 -- a comment begins with the first `#`
@@ -38,11 +38,6 @@ behind (b ∷ bs) = cond (blank b) (b ∷ bs) (behind bs)
 abbrev pub NextWord : List ℕ → Option (Bor (List ℕ) × Bor (List ℕ)) → Type 0
 NextWord line None = words line ≡ []
 NextWord line (Some r) = (words line ≡ r.0.now ∷ words r.1.now) × (r.1.now ≡ behind (trimmed line))
-
--- how many bytes at the front are blanks, or how many are not
-abbrev pub run : Bool → List ℕ → ℕ
-run blanks [] = 0
-run blanks (b ∷ bs) = cond (cond (blank b) blanks (not blanks)) (suc (run blanks bs)) 0
 
 -- which x has the word as its text, if any
 abbrev pub Names : {X : Type 0} → (X → List ℕ) → List ℕ → Option X → Type 0
