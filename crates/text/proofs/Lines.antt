@@ -25,26 +25,30 @@ scalar_low : (b : ℕ) → b < 128 → IsScalar b
 scalar_low b h = grind (arith, nat_tests)
 
 no_blank : (bs : List ℕ) (i : ℕ) → NoCharPasses blank bs → i < length bs → blank (get_or bs i 0) ≡ false
-no_blank bs i none h = ⊎_elim (λ e. NoCharPasses-byte blank bs i none h (blank_low _ e)) (λ e. e) (cases_Bool (blank (get_or bs i 0)))
+no_blank bs i none h =
+    ⊎_elim (λ e. NoCharPasses-byte blank bs i none h (blank_low _ e)) (λ e. e) (cases_Bool (blank (get_or bs i 0)))
 
 -- What is left when the blanks at the front are cut off, one by one.
 
 -- o is the width of the blank at the front
 abbrev Front : List ℕ → Option ℕ → Type 0
-Front s o = (k : ℕ → Bool) → ((c : ℕ) → char_set_contains (32 ∷ 9 ∷ 13 ∷ []) c ≡ k c) → FindsPrefixBy k s o
+Front s o =
+    (k : ℕ → Bool) → ((c : ℕ) → char_set_contains (32 ∷ 9 ∷ 13 ∷ []) c ≡ k c) → FindsPrefixBy k s o
 
 one_cut : (s : List ℕ) (n : ℕ) → FindsPrefixBy blank s (Some n) → trimmed s ≡ trimmed (drop n s)
 one_cut s n (c, passes, at) = ap trimmed (drop_at_char c s 0 n at (blank_low c passes)) ∙ rw passes refl
 
 all_cut : (s ns r : List ℕ) → CutsPrefixes Front s ns r → trimmed s ≡ trimmed r
 all_cut s [] r is = ap trimmed (sym is)
-all_cut s (n ∷ ns) r (m, before, front, is) = all_cut s ns m before ∙ one_cut m n (front blank is_blank) ∙ ap trimmed (sym is)
+all_cut s (n ∷ ns) r (m, before, front, is) =
+    all_cut s ns m before ∙ one_cut m n (front blank is_blank) ∙ ap trimmed (sym is)
 
 none_left : (r : List ℕ) → FindsPrefixBy blank r None → trimmed r ≡ r
 none_left [] h = refl
 none_left (b ∷ bs) h =
     ⊎_elim
-    (λ e. let low = blank_low b e in absurd (both_ways (blank b) (h b bs (scalar_low b low) (sym (ap (λ l. l ++ bs) (encode_ascii b low)))) e))
+    (λ e. let low = blank_low b e in
+    absurd (both_ways (blank b) (h b bs (scalar_low b low) (sym (ap (λ l. l ++ bs) (encode_ascii b low)))) e))
     (λ e. rw e refl)
     (cases_Bool (blank b))
 
@@ -59,8 +63,10 @@ trims s r ((ns, cuts), (Some n, h, nothing)) =
 abbrev First : List ℕ → Option (ℕ × ℕ) → Type 0
 First s o = (k : ℕ → Bool) → ((c : ℕ) → char_set_contains (32 ∷ 9 ∷ 13 ∷ []) c ≡ k c) → FindsBy k s o
 
-pub ends : (s : List ℕ) (r : Option ℕ) → MatchOption r (First s None) (MatchBeginsAt First s) → position_or_len blank s ≡ unwrap_or r (length s)
-ends s None h = position_or_len_is blank s (length s) 0 (omega arith) (λ k lt. no_blank s k (h blank is_blank) lt) (λ lt. absurd (omega arith))
+pub ends : (s : List ℕ) (r : Option ℕ) → MatchOption r (First s None) (MatchBeginsAt First s)
+    → position_or_len blank s ≡ unwrap_or r (length s)
+ends s None h =
+    position_or_len_is blank s (length s) 0 (omega arith) (λ k lt. no_blank s k (h blank is_blank) lt) (λ lt. absurd (omega arith))
 ends s (Some i) (j, found, order, front, back) =
     let (none, (c, passes, at)) = found blank is_blank in
     position_or_len_is blank s i 0 front.0
@@ -69,13 +75,17 @@ ends s (Some i) (j, found, order, front, back) =
 
 -- What goes up to the first byte that p takes, and what comes from the first blank on.
 
-take_on : (t : Bool) (b n : ℕ) (bs front : List ℕ) → front ≡ take n bs → cond t [] (b ∷ front) ≡ take (cond (not t) (1 + n) 0) (b ∷ bs)
+take_on : (t : Bool) (b n : ℕ) (bs front : List ℕ) → front ≡ take n bs
+    → cond t [] (b ∷ front) ≡ take (cond (not t) (1 + n) 0) (b ∷ bs)
 take_on true b n bs front e = refl
-take_on false b n bs front e = let more : suc n ≡ 1 + n = omega arith in subst (λ k. b ∷ front ≡ take k (b ∷ bs)) more (ap (λ l. b ∷ l) e)
+take_on false b n bs front e =
+    let more : suc n ≡ 1 + n = omega arith in subst (λ k. b ∷ front ≡ take k (b ∷ bs)) more (ap (λ l. b ∷ l) e)
 
-drop_on : (t : Bool) (b n : ℕ) (bs back : List ℕ) → back ≡ drop n bs → cond t (b ∷ bs) back ≡ drop (cond (not t) (1 + n) 0) (b ∷ bs)
+drop_on : (t : Bool) (b n : ℕ) (bs back : List ℕ) → back ≡ drop n bs
+    → cond t (b ∷ bs) back ≡ drop (cond (not t) (1 + n) 0) (b ∷ bs)
 drop_on true b n bs back e = refl
-drop_on false b n bs back e = let more : suc n ≡ 1 + n = omega arith in subst (λ k. back ≡ drop k (b ∷ bs)) more e
+drop_on false b n bs back e =
+    let more : suc n ≡ 1 + n = omega arith in subst (λ k. back ≡ drop k (b ∷ bs)) more e
 
 uncommented_first : (bs : List ℕ) → uncommented bs ≡ before_first (λ b. eqb b 35) bs
 uncommented_first [] = refl
@@ -119,8 +129,10 @@ module _ (line rest : List ℕ) (is : rest ≡ trimmed line) where
       (rw (first, after) (first_word line (subst (λ (l : List ℕ). 0 < length l) is some)), after)
 
 -- What stands before the comment.
-pub before : (line rest : List ℕ) (o : Option (Bor (List ℕ) × Bor (List ℕ))) → IsSplitOnceResult 35 line o → MatchOption o (rest ≡ line) (λ x. rest ≡ x.0.now) → rest ≡ uncommented line
+pub before : (line rest : List ℕ) (o : Option (Bor (List ℕ) × Bor (List ℕ))) → IsSplitOnceResult 35 line o
+    → MatchOption o (rest ≡ line) (λ x. rest ≡ x.0.now) → rest ≡ uncommented line
 before line rest None h is =
     let none = split_once_first 35 line None h (lit< tt) in
     is ∙ sym (uncommented_first line ∙ take_all _ line (omega (arith, none)))
-before line rest (Some x) h is = is ∙ (split_once_first 35 line (Some x) h (lit< tt)).1 ∙ sym (uncommented_first line)
+before line rest (Some x) h is =
+    is ∙ (split_once_first 35 line (Some x) h (lit< tt)).1 ∙ sym (uncommented_first line)
