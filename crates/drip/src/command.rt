@@ -1,15 +1,17 @@
 // The command line.
 use std::alloc::{AllocFailed, Global};
+use std::error::Error;
 use std::fmt;
+use std::str::FromStr;
 
-#[derive(Clone, Copy)]
+#[derive(Clone, Copy, Debug, PartialEq, Eq)]
 pub enum Command<'a> {
     Help,
     Rules(Rules<'a>),
 }
 
 // `drip rules KIND FILE --policy POLICY`
-#[derive(Clone, Copy)]
+#[derive(Clone, Copy, Debug, PartialEq, Eq)]
 pub struct Rules<'a> {
     pub kind: Kind,
     pub policy: PolicyName,
@@ -17,19 +19,19 @@ pub struct Rules<'a> {
 }
 
 // A kind of label that the program knows.
-#[derive(Clone, Copy)]
+#[derive(Clone, Copy, Debug, PartialEq, Eq)]
 pub enum Kind {
     One(KindName),
     Pair(KindName, KindName),
 }
 
-#[derive(Clone, Copy)]
+#[derive(Clone, Copy, Debug, PartialEq, Eq)]
 pub enum KindName {
     Levels,
     Growers,
 }
 
-#[derive(Clone, Copy)]
+#[derive(Clone, Copy, Debug, PartialEq, Eq)]
 pub enum PolicyName {
     Direct,
     Rows,
@@ -37,7 +39,7 @@ pub enum PolicyName {
 }
 
 // What is wrong with a command line.
-#[derive(Clone, Copy)]
+#[derive(Clone, Copy, Debug, PartialEq, Eq)]
 pub enum Misuse<'a> {
     UnknownCommand(&'a str),
     UnknownKind { file: &'a str, word: &'a str },
@@ -48,6 +50,10 @@ pub enum Misuse<'a> {
     TooMany(&'a str),
     Memory,
 }
+
+// The word names no kind of label, or no policy.
+#[derive(Clone, Copy, Debug, PartialEq, Eq)]
+pub struct UnknownName;
 
 impl Command<'_> {
     // The command that the words after the program's own name give.
@@ -67,31 +73,25 @@ impl Rules<'_> {
     fn parse(heap: Global, words: &[String]) -> Result<Rules<'_>, Misuse<'_>> {
         let mut plain = Vec::new(heap);
         let mut policy = PolicyName::Cached;
-        let mut policy_is_next = false;
-        for word in words {
-            let word = word.as_str();
-            if policy_is_next {
-                policy = PolicyName::named(word)?;
-                policy_is_next = false;
-            } else if word == "--policy" {
-                policy_is_next = true;
-            } else if word.starts_with("--") {
-                return Err(Misuse::UnknownOption(word));
-            } else {
-                plain.push(word)?;
+        let mut words = words.iter();
+        while let Some(word) = words.next() {
+            match word.as_str() {
+                "--policy" => {
+                    let name = words.next().ok_or(Misuse::NoPolicy)?.as_str();
+                    policy = name.parse().map_err(|_| Misuse::UnknownPolicy(name))?;
+                }
+                option if option.starts_with("--") => return Err(Misuse::UnknownOption(option)),
+                word => plain.push(word)?,
             }
-        }
-        if policy_is_next {
-            return Err(Misuse::NoPolicy);
         }
         match plain.as_slice() {
             [] | [_] => Err(Misuse::TooFew),
             [word, file] => {
-                let kind = Kind::One(KindName::named(file, word)?);
+                let kind = Kind::One(kind_named(file, word)?);
                 Ok(Rules { kind, policy, file })
             }
             [left, right, file] => {
-                let kind = Kind::Pair(KindName::named(file, left)?, KindName::named(file, right)?);
+                let kind = Kind::Pair(kind_named(file, left)?, kind_named(file, right)?);
                 Ok(Rules { kind, policy, file })
             }
             [_, _, _, extra, ..] => Err(Misuse::TooMany(extra)),
@@ -99,23 +99,32 @@ impl Rules<'_> {
     }
 }
 
-impl KindName {
-    fn named<'a>(file: &'a str, word: &'a str) -> Result<KindName, Misuse<'a>> {
+// The kind of label that a word names; one that is unknown is told with the file.
+fn kind_named<'a>(file: &'a str, word: &'a str) -> Result<KindName, Misuse<'a>> {
+    word.parse().map_err(|_| Misuse::UnknownKind { file, word })
+}
+
+impl FromStr for KindName {
+    type Err = UnknownName;
+
+    fn from_str(word: &str) -> Result<KindName, UnknownName> {
         match word {
             "levels" => Ok(KindName::Levels),
             "growers" => Ok(KindName::Growers),
-            _ => Err(Misuse::UnknownKind { file, word }),
+            _ => Err(UnknownName),
         }
     }
 }
 
-impl PolicyName {
-    fn named(word: &str) -> Result<PolicyName, Misuse<'_>> {
+impl FromStr for PolicyName {
+    type Err = UnknownName;
+
+    fn from_str(word: &str) -> Result<PolicyName, UnknownName> {
         match word {
             "direct" => Ok(PolicyName::Direct),
             "rows" => Ok(PolicyName::Rows),
             "cached" => Ok(PolicyName::Cached),
-            _ => Err(Misuse::UnknownPolicy(word)),
+            _ => Err(UnknownName),
         }
     }
 }
@@ -163,6 +172,8 @@ impl fmt::Display for Misuse<'_> {
         }
     }
 }
+
+impl Error for Misuse<'_> {}
 
 // The text of a kind's labels, for whoever wrote another.
 impl fmt::Display for Kind {

@@ -1,8 +1,8 @@
-use std::alloc::{AllocError, AllocFailed};
+use std::alloc::AllocError;
 use std::io;
 
-// Why the program ends with status 1.
-#[derive(Drop)]
+// Why the program ends with status 1. Option<io::Error> has the same values, but would not say what its None means.
+#[derive(Debug, Drop)]
 pub enum Failure {
     // What is wrong was told on standard error.
     Told,
@@ -16,8 +16,8 @@ impl From<io::Error> for Failure {
     }
 }
 
-impl<T: Drop> From<AllocFailed<T>> for Failure {
-    fn from(_e: AllocFailed<T>) -> Failure {
-        Failure::Io(io::Error::from(AllocError))
+impl From<AllocError> for Failure {
+    fn from(e: AllocError) -> Failure {
+        Failure::Io(io::Error::from(e))
     }
 }

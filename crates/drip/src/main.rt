@@ -8,6 +8,7 @@ mod questions;
 
 use command::Command;
 use failure::Failure;
+use questions::Session;
 use std::process::ExitCode;
 use std::{env, io};
 
@@ -46,16 +47,13 @@ fn main(rt: HostRuntime) -> Result<ExitCode, io::Error> {
 }
 
 fn run(rt: &HostRuntime) -> Result<(), Failure> {
-    let mut words = Vec::new(rt.alloc());
-    for word in env::args(rt)?.skip(1) {
-        words.push(word)?;
-    }
+    let words: Vec<String> = env::args(rt)?.skip(1).collect(rt.alloc())?;
     match Command::parse(rt.alloc(), words.as_slice()) {
         Ok(Command::Help) => {
             rt.print(USAGE)?;
             Ok(())
         }
-        Ok(Command::Rules(asked)) => questions::answer(rt, asked),
+        Ok(Command::Rules(asked)) => Session::new(rt, asked).answer(),
         Err(misuse) => {
             eprintln!(rt; "{misuse}")?;
             Err(Failure::Told)

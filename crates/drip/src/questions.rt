@@ -1,5 +1,6 @@
 // `drip rules`: questions from a file or standard input, answered by a policy that is true to the published rows.
 ghost use Rattle.rules.specs.Tables.{published};
+ghost use Rattle.text.specs.Answers.{ByTable};
 
 use crate::Failure;
 use crate::command::{Kind, KindName, PolicyName, Rules};
@@ -7,115 +8,141 @@ use crate::complaint::{Complaint, Problem};
 use labels::{Growers, Label, Level, Pair};
 use rules::{Cached, Direct, Policy, RowTable};
 use std::fs::File;
-use std::io::{BufRead, BufReader};
-use text::answer_line;
+use std::io::{BufRead, BufReader, Read};
+use std::marker::{Model, PhantomData};
+use text::{Answer, Fault, answer_line};
 
-// Answers what is asked, with labels of the kind that is asked for.
-pub fn answer(rt: &HostRuntime, asked: Rules<'_>) -> Result<(), Failure> {
-    match asked.kind {
-        Kind::One(KindName::Levels) => answer_labelled::<Level>(rt, asked),
-        Kind::One(KindName::Growers) => answer_labelled::<Growers>(rt, asked),
-        Kind::Pair(KindName::Levels, right) => answer_pairs::<Level>(rt, asked, right),
-        Kind::Pair(KindName::Growers, right) => answer_pairs::<Growers>(rt, asked, right),
-    }
-}
-
-fn answer_pairs<A: Label>(
-    rt: &HostRuntime,
-    asked: Rules<'_>,
-    right: KindName,
-) -> Result<(), Failure> {
-    match right {
-        KindName::Levels => answer_labelled::<Pair<A, Level>>(rt, asked),
-        KindName::Growers => answer_labelled::<Pair<A, Growers>>(rt, asked),
-    }
-}
-
-fn answer_labelled<L: Label>(rt: &HostRuntime, asked: Rules<'_>) -> Result<(), Failure> {
-    match asked.policy {
-        PolicyName::Direct => answer_by::<Direct, L>(rt, asked, Direct::new::<L>()),
-        PolicyName::Rows => answer_by::<RowTable, L>(rt, asked, RowTable::new::<L>()),
-        PolicyName::Cached => answer_by::<Cached<RowTable, L>, L>(
-            rt,
-            asked,
-            Cached::new(RowTable::new::<L>()),
-        ),
-    }
-}
-
-fn answer_by<P: Policy<L> + Drop, L: Label>(
-    rt: &HostRuntime,
-    asked: Rules<'_>,
+// A policy that is true to the published rows, for labels of kind L. Contracts see the policy.
+#[derive(Drop)]
+struct Faithful<P: Policy<L>, L: Label> {
     policy: P,
-) -> Result<(), Failure>
-    requires { P.Policy.faithful policy (published L.Label.kind) }
-{
-    let mut policy = policy;
-    if asked.file == "-" {
-        return answer_lines::<P, L, _>(
-            rt,
-            asked,
-            &mut policy,
-            BufReader::new(rt.alloc(), rt.stdin())?,
-        );
-    }
-    match File::open(rt, asked.file) {
-        Ok(file) => answer_lines::<P, L, _>(
-            rt,
-            asked,
-            &mut policy,
-            BufReader::new(rt.alloc(), file)?,
-        ),
-        Err(e) => Err(told(rt, asked, 0, Problem::Unopened(&e))),
-    }
+    kind: PhantomData<L>,
 }
 
-fn answer_lines<P: Policy<L>, L: Label, R: BufRead + Drop>(
-    rt: &HostRuntime,
-    asked: Rules<'_>,
-    policy: &mut P,
-    reader: R,
-) -> Result<(), Failure>
-    requires { P.Policy.faithful policy.old (published L.Label.kind) }
-{
-    let mut number = 0u64;
-    for line in reader.lines(rt.alloc()) {
-        number = number.saturating_add(1);
-        match line {
-            Ok(line) => answer_one::<P, L>(rt, asked, policy, number, line.as_str())?,
-            Err(e) => return Err(told(rt, asked, number, Problem::Unread(&e))),
+impl<P: Policy<L>, L: Label> Model for Faithful<P, L> {
+    ghost Value = { P };
+
+    ghost view = { λ f. f.policy };
+
+    ghost invariant = { λ f. P.Policy.faithful f.policy (published L.Label.kind) };
+}
+
+impl<P: Policy<L>, L: Label> Faithful<P, L> {
+    fn new(policy: P) -> Faithful<P, L>
+        requires { P.Policy.faithful policy (published L.Label.kind) }
+    {
+        Faithful {
+            policy,
+            kind: PhantomData,
         }
     }
-    Ok(())
-}
 
-fn answer_one<P: Policy<L>, L: Label>(
-    rt: &HostRuntime,
-    asked: Rules<'_>,
-    policy: &mut P,
-    number: u64,
-    line: &str,
-) -> Result<(), Failure>
-    requires { P.Policy.faithful policy.old (published L.Label.kind) }
-    ensures { P.Policy.faithful policy.new (published L.Label.kind) }
-{
-    match answer_line::<P, L>(policy, line) {
-        Ok(Some(answer)) => rt.println(answer)?,
-        Ok(None) => {}
-        Err(fault) => return Err(told(rt, asked, number, Problem::NoQuestion(fault, asked.kind))),
+    // The answer to the question on a line, if there is one: the published rows'.
+    fn answer<'a>(&mut self, line: &'a str) -> Result<Option<Answer<L>>, Fault<'a>>
+        ensures { ByTable (published L.Label.kind) result }
+    {
+        answer_line::<P, L>(&mut self.policy, line)
     }
-    Ok(())
 }
 
-// Tells what is wrong on standard error.
-fn told<'a>(rt: &HostRuntime, asked: Rules<'a>, line: u64, problem: Problem<'a>) -> Failure {
-    let file = asked.file;
-    match rt.eprintln(Complaint {
-        file,
-        line,
-        problem,
-    }) {
-        Ok(()) => Failure::Told,
-        Err(e) => Failure::Io(e),
+// One run of `drip rules`: where it reads and writes, and what is asked.
+#[derive(Clone, Copy)]
+pub struct Session<'a> {
+    rt: &'a HostRuntime,
+    asked: Rules<'a>,
+}
+
+impl<'a> Session<'a> {
+    pub fn new(rt: &'a HostRuntime, asked: Rules<'a>) -> Session<'a> {
+        Session { rt, asked }
+    }
+
+    // Answers what is asked, with labels of the kind that is asked for. A kind, and below a policy, is a type here, so
+    // each is named: a `dyn` would be made of each too, and a dyn of Policy<L>, whose trait has a parameter, gets no proof.
+    pub fn answer(self) -> Result<(), Failure> {
+        match self.asked.kind {
+            Kind::One(KindName::Levels) => self.answer_labelled::<Level>(),
+            Kind::One(KindName::Growers) => self.answer_labelled::<Growers>(),
+            Kind::Pair(KindName::Levels, KindName::Levels) => {
+                self.answer_labelled::<Pair<Level, Level>>()
+            }
+            Kind::Pair(KindName::Levels, KindName::Growers) => {
+                self.answer_labelled::<Pair<Level, Growers>>()
+            }
+            Kind::Pair(KindName::Growers, KindName::Levels) => {
+                self.answer_labelled::<Pair<Growers, Level>>()
+            }
+            Kind::Pair(KindName::Growers, KindName::Growers) => {
+                self.answer_labelled::<Pair<Growers, Growers>>()
+            }
+        }
+    }
+
+    fn answer_labelled<L: Label>(self) -> Result<(), Failure> {
+        match self.asked.policy {
+            PolicyName::Direct => self.answer_by(Faithful::<_, L>::new(Direct::new::<L>())),
+            PolicyName::Rows => self.answer_by(Faithful::<_, L>::new(RowTable::new::<L>())),
+            PolicyName::Cached => {
+                let policy = Cached::new(RowTable::new::<L>());
+                self.answer_by(Faithful::<_, L>::new(policy))
+            }
+        }
+    }
+
+    fn answer_by<P: Policy<L> + Drop, L: Label>(
+        self,
+        policy: Faithful<P, L>,
+    ) -> Result<(), Failure> {
+        if self.asked.file == "-" {
+            return self.answer_lines(policy, self.rt.stdin());
+        }
+        let file = File::open(self.rt, self.asked.file).map_err(|e| self.told(
+            0,
+            Problem::Unopened(&e),
+        ))?;
+        self.answer_lines(policy, file)
+    }
+
+    fn answer_lines<P: Policy<L> + Drop, L: Label, R: Read + Drop>(
+        self,
+        mut policy: Faithful<P, L>,
+        reader: R,
+    ) -> Result<(), Failure> {
+        let lines = BufReader::new(self.rt.alloc(), reader)?.lines(self.rt.alloc());
+        for (number, line) in (1u64..).zip(lines) {
+            let line = line.map_err(|e| self.told(number, Problem::Unread(&e)))?;
+            self.answer_one(&mut policy, number, line.as_str())?;
+        }
+        Ok(())
+    }
+
+    fn answer_one<P: Policy<L>, L: Label>(
+        self,
+        policy: &mut Faithful<P, L>,
+        number: u64,
+        line: &str,
+    ) -> Result<(), Failure> {
+        let answer = policy.answer(line).map_err(|fault| self.told(
+            number,
+            Problem::NoQuestion(fault, self.asked.kind),
+        ))?;
+        if let Some(answer) = answer {
+            self.rt.println(answer)?;
+        }
+        Ok(())
+    }
+
+    // Tells what is wrong on standard error.
+    fn told(self, line: u64, problem: Problem<'_>) -> Failure {
+        let file = self.asked.file;
+        let complaint = Complaint {
+            file,
+            line,
+            problem,
+        };
+        match self.rt.eprintln(complaint) {
+            Ok(()) => Failure::Told,
+            Err(e) => Failure::Io(e),
+        }
     }
 }
