@@ -4,6 +4,7 @@ use std::error::Error;
 use std::fmt;
 use std::str::FromStr;
 
+// What is asked of the program. Option<Rules> has the same values, but its None would not say help.
 #[derive(Clone, Copy, Debug, PartialEq, Eq)]
 pub enum Command<'a> {
     Help,
@@ -70,6 +71,7 @@ impl Command<'_> {
 }
 
 impl Rules<'_> {
+    // The options may stand anywhere, so the loop takes them out, each with its value, and keeps the plain words.
     fn parse(heap: Global, words: &[String]) -> Result<Rules<'_>, Misuse<'_>> {
         let mut plain = Vec::new(heap);
         let mut policy = PolicyName::Cached;
