@@ -1,11 +1,17 @@
 -- The numbers that a call takes.
-use Rattle.std.proofs.Common.{◌≡◌, ℕ, zero, suc, ◌<◌, ◌≤◌, List, [], ◌∷◌, ◌++◌, length, take, drop, refl, ap, arith}
+use Rattle.std.proofs.Common.{◌≡◌, ℕ, zero, suc, leb, ◌<◌, ◌≤◌, List, [], ◌∷◌, ◌++◌, length, take, drop, refl, sym, ap, ◌∙◌, arith}
+use Rattle.std.proofs.lemmas.Bool.{le-leb, lt-leb}
+use Rattle.std.proofs.lemmas.Bool.Decides.{nat_tests}
+use Rattle.std.specs.List.{list_all}
 use Rattle.machine.specs.Steps.{Outcome, stopped, taking_all, numbers_onto}
 use Rattle.machine.specs.declared.answers.Stop.TheVariants.{TooFewNumbers}
 use Rattle.machine.specs.declared.parts.Entry.{Entry}
 use Rattle.machine.specs.declared.parts.Entry.TheVariants.{Number, Frame}
 use Rattle.machine.specs.declared.parts.Labelled.{Labelled}
-use Rattle.steps.specs.Walks.{numbers_on_top}
+use Rattle.steps.specs.Walks.{numbers_on_top, is_number}
+
+leb_suc : (k n : ℕ) → leb k n ≡ leb (suc k) (suc n)
+leb_suc k n = grind (arith, nat_tests)
 
 module _ {L : Type 0} where
   -- the first k numbers
@@ -37,3 +43,9 @@ module _ {L : Type 0} where
   numbers_within [] = omega arith
   numbers_within (Number a ∷ es) = omega (arith, numbers_within es)
   numbers_within (Frame f ∷ es) = omega arith
+
+  pub all_numbers : (k : ℕ) (es : List (Entry L)) → k ≤ length es → list_all is_number (take k es) ≡ leb k (numbers_on_top es)
+  all_numbers zero es within = sym (le-leb 0 (numbers_on_top es) (omega arith))
+  all_numbers (suc k) [] within = absurd (omega arith)
+  all_numbers (suc k) (Number a ∷ es) within = all_numbers k es (omega arith) ∙ leb_suc k (numbers_on_top es)
+  all_numbers (suc k) (Frame f ∷ es) within = sym (lt-leb (suc k) 0 (omega arith))

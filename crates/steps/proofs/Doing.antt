@@ -1,16 +1,20 @@
 -- How an operation in code comes to what is defined: it was stopped, or it was done.
-use Rattle.std.proofs.Common.{◌≡◌, ℕ, ◌<◌, ◌≤◌, ltb, List, length, ℤ, IsErrAnd, Ok, Err, Result, sym, refl, ap, ◌∙◌, subst}
+use Rattle.std.proofs.Common.{◌≡◌, ℕ, ◌<◌, ◌≤◌, ltb, List, ◌++◌, length, arith, length-append, ℤ, IsErrAnd, Ok, Err, Result, sym, refl, ap, ◌∙◌, subst}
 use Rattle.std.proofs.lemmas.Result.{err_from_is_err_and}
 use Rattle.std.proofs.lemmas.Bool.{lt-ltb, le-ltb}
 use Rattle.labels.specs.Kind.{Kind}
 use Rattle.rules.specs.Tables.{Table}
+use Rattle.rules.specs.declared.Request.{Request}
+use Rattle.rules.specs.declared.Verdict.{Verdict}
 use Rattle.machine.specs.Steps.{Setup, Round, Outcome, stopped, done, provided, tried}
 use Rattle.machine.specs.declared.answers.Stop.{Stop}
 use Rattle.machine.specs.declared.parts.Entry.{Entry}
 use Rattle.machine.specs.declared.parts.Labelled.{Labelled}
 use Rattle.machine.specs.declared.parts.Operation.{Operation}
-use Rattle.steps.specs.Operations.{registers, round, Does}
+use Rattle.steps.specs.Operations.{registers, starting, round, Rules, Under, Does}
 use Rattle.steps.specs.declared.registers.Registers.{Registers}
+use Rattle.steps.specs.declared.registers.Fetched.{Fetched}
+use Rattle.steps.proofs.Stacks.{newest_on}
 
 module _ {L : Type 0} where
   abbrev at : ℤ → L → List (Entry L) → List (Labelled L) → List (Labelled L) → Outcome L
@@ -91,6 +95,51 @@ module _ {L : Type 0} where
       keeps_log = did.keeps_log;
       fits = did.fits;
     }
+
+  -- What is asked with labels filled in, where it is known what was asked without them.
+  pub asked : {P : Type 0} {faithful : P → Table L → Type 0} {policy policy' : P} {q q' : Request L} (fill : Request L → Request L) (r : Result (Verdict L) Stop) → q ≡ q'
+      → Under faithful policy policy' (λ table. Rules (table (fill q)) r) → Under faithful policy policy' (λ table. Rules (table (fill q')) r)
+  asked {P} {faithful} {policy} {policy'} {q} {q'} fill r same under = subst (λ x. Under faithful policy policy' (λ table. Rules (table (fill x)) r)) same under
+
+  -- What an operation starts from is the same with what lies beyond the entries in use as without it.
+  before_is : (start : Fetched L) (used free : List (Entry L)) (memory log : List (Labelled L)) → round (starting start (length used)) memory (used ++ free) log ≡ round (starting start (length used)) memory used log
+  before_is start used free memory log = ap on (newest_on (length used) used free (omega arith))
+    where
+      on : List (Entry L) → Round L
+      on s = record { pc = start.pc.number; pc_label = start.pc_label; stack = s; kept = (round (starting start (length used)) memory used log).kept }
+
+  -- The same over the entries in use, whatever lies beyond them.
+  module _ {P : Type 0} {faithful : P → Table L → Type 0} {policy policy' : P} {memory log : List (Labelled L)} {defined : Table L → Setup L → Round L → Outcome L} (start : Fetched L) (used free : List (Entry L)) where
+    pub used_stops : {stop : Stop} → ((table : Table L) → faithful policy table → faithful policy' table)
+        → ((table : Table L) → faithful policy table → (setup : Setup L) → setup.sizes.log ≡ length log
+        → defined table setup (round (starting start (length used)) memory used log) ≡ stopped stop)
+        → Does faithful policy policy' memory memory (used ++ free) (used ++ free) log log (starting start (length used)) (Err stop) defined
+    used_stops still comes = stops still (λ table true setup _ logs. ap (defined table setup) (before_is start used free memory log) ∙ comes table true setup logs)
+
+    pub used_hands_on : {r : Result (Registers L) Stop} {stop : Stop} → IsErrAnd r (λ y. y ≡ stop)
+        → ((table : Table L) → faithful policy table → faithful policy' table)
+        → ((table : Table L) → faithful policy table → (setup : Setup L) → setup.sizes.log ≡ length log
+        → defined table setup (round (starting start (length used)) memory used log) ≡ stopped stop)
+        → Does faithful policy policy' memory memory (used ++ free) (used ++ free) log log (starting start (length used)) r defined
+    used_hands_on by still comes = hands_on by still (λ table true setup _ logs. ap (defined table setup) (before_is start used free memory log) ∙ comes table true setup logs)
+
+    pub used_does : {memory' log' : List (Labelled L)} (used' : List (Entry L)) {q : Registers L} {pc : ℤ} {label : L} {depth commands : ℕ}
+        → q ≡ registers pc label depth commands → ((table : Table L) → faithful policy table → faithful policy' table)
+        → length used' ≡ length used → depth ≤ length used → commands ≤ length log
+        → ((table : Table L) → faithful policy table → (setup : Setup L) → setup.sizes.log ≡ length log
+        → done (round (registers pc label depth commands) memory' used' log') ≡ defined table setup (round (starting start (length used)) memory used log))
+        → Does faithful policy policy' memory memory' (used ++ free) (used' ++ free) log log' (starting start (length used)) (Ok q) defined
+    used_does {memory'} {log'} used' {q} {pc} {label} {depth} {commands} is still same deep many comes =
+        does is still (omega (arith, length-append used free)) many
+        (λ table true setup _ logs. done_stack (newest_on depth used' free (omega arith)) ∙ comes table true setup logs ∙ sym (ap (defined table setup) (before_is start used free memory log)))
+
+    pub used_defined_as : {memory' log' : List (Labelled L)} (used' : List (Entry L)) {r : Result (Registers L) Stop} {defined' : Table L → Setup L → Round L → Outcome L}
+        → ((table : Table L) (setup : Setup L) → defined table setup (round (starting start (length used)) memory used log) ≡ defined' table setup (round (starting start (length used)) memory used log))
+        → Does faithful policy policy' memory memory' (used ++ free) (used' ++ free) log log' (starting start (length used)) r defined'
+        → Does faithful policy policy' memory memory' (used ++ free) (used' ++ free) log log' (starting start (length used)) r defined
+    used_defined_as {memory'} {log'} used' {r} {defined'} same did =
+        let before = before_is start used free memory log in
+        defined_as (λ table setup. ap (defined table setup) before ∙ same table setup ∙ sym (ap (defined' table setup) before)) did
 
   -- an operation that was found to be another
   pub tried_as : (kind : Kind L) {P : Type 0} {faithful : P → Table L → Type 0} {policy policy' : P} {stack stack' : List (Entry L)} {memory memory' log log' : List (Labelled L)} {before : Registers L} {r : Result (Registers L) Stop} {op op' : Operation L}

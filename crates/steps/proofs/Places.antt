@@ -1,14 +1,22 @@
 -- Elements of a list by their places.
-use Rattle.std.proofs.Common.{◌≡◌, ℕ, zero, suc, ◌<◌, ◌≤◌, List, [], ◌∷◌, length, get_or, ℤ, pos, negsuc, nat_abs, Some, None, sym, refl, ap, ◌∙◌, arith, w64, SFits, to_z, of_z}
+use Rattle.std.proofs.Common.{◌≡◌, ℕ, zero, suc, ◌<◌, ◌≤◌, List, [], ◌∷◌, length, get_or, ℤ, pos, negsuc, nat_abs, Some, None, Option, Ok, Err, Result, sym, refl, ap, ◌∙◌, arith, w64, SFits, to_z, of_z}
 use Rattle.std.proofs.lemmas.Int.{to_z-of_z}
 use Rattle.std.specs.Int.{FitsUnsignedBits}
-use Rattle.machine.specs.Steps.{element, at_place}
+use Rattle.std.specs.Result.{OkIff, result_ok}
+use Rattle.std.specs.Option.{ok_or}
+use Rattle.machine.specs.Steps.{stopped, element, at_place}
+use Rattle.machine.specs.declared.answers.Stop.TheVariants.{OutsideMemory}
+use Rattle.machine.specs.declared.parts.Labelled.{Labelled}
+use Rattle.steps.specs.Walks.{Finds, FindsCell}
+use Rattle.steps.specs.declared.walks.Found.{Found}
 
 -- A place that was converted to an index is that index.
-pub unsigned_is : (place : ℤ) (index : ℕ) → SFits w64 place → FitsUnsignedBits 64 (to_z w64 (of_z w64 place)) × (index ≡ nat_abs (to_z w64 (of_z w64 place))) → place ≡ pos index
-unsigned_is place index fits converted =
+pub index_is : {E : Type 0} (place : ℤ) (index : ℕ) (r : Result ℕ E) → SFits w64 place → OkIff r (FitsUnsignedBits 64 (to_z w64 (of_z w64 place))) (nat_abs (to_z w64 (of_z w64 place))) → Some index ≡ result_ok r → place ≡ pos index
+index_is place index (Err e) fits converted ok = let z : ◌≡◌ {A = ℕ} 0 1 = cc in absurd (omega arith)
+index_is place index (Ok n) fits converted ok =
+    let same_index : index ≡ n = cc in
     let z = to_z w64 (of_z w64 place) in
-    sym (to_z-of_z w64 place fits) ∙ same z converted.0 ∙ ap pos (sym converted.1)
+    sym (to_z-of_z w64 place fits) ∙ same z converted.0 ∙ ap pos (sym (same_index ∙ converted.1))
   where
     same : (z : ℤ) → FitsUnsignedBits 64 z → z ≡ pos (nat_abs z)
     same (pos n) fits = refl
@@ -44,3 +52,11 @@ module _ {A : Type 0} where
     pub place_none : (xs : List A) (place : ℤ) → at_place xs place None Some ≡ None → at_place xs place else then ≡ else
     place_none xs (pos i) found = element_none xs i found
     place_none xs (negsuc i) found = refl
+
+pub finds_cell : {L : Type 0} (memory : List (Labelled L)) (place address : ℤ) (o : Option (Found (Labelled L))) → place ≡ address → Finds memory place o → FindsCell memory address (ok_or o OutsideMemory)
+finds_cell memory place address None same found = λ then. place_none (stopped OutsideMemory) then memory address (ap (λ p. at_place memory p None Some) (sym same) ∙ found)
+finds_cell memory place address (Some x) same found = (
+  sym same ∙ found.0,
+  found.1,
+  λ then. place_there (stopped OutsideMemory) then memory address x.element (ap (λ p. at_place memory p None Some) (sym same) ∙ found.2),
+)

@@ -1,7 +1,11 @@
 -- The first elements of a lent part, the newest first, as the code reads and writes them.
-use Rattle.std.proofs.Common.{◌≡◌, ℕ, ◌+◌, ◌<◌, ◌≤◌, List, [], ◌∷◌, ◌++◌, reverse, length, get_or, take, set, sym, ap, ◌∙◌}
-use Rattle.std.proofs.lemmas.List.{length-reverse, length-take-le, take_more, take_more_set, reverse-append}
-use Rattle.steps.specs.Walks.{newest}
+use Rattle.std.proofs.Common.{◌≡◌, ℕ, Ok, Err, Result, ◌+◌, ◌-◌, ◌<◌, ◌≤◌, List, [], ◌∷◌, ◌++◌, reverse, length, get_or, take, set, refl, sym, ap, ◌∙◌, arith}
+use Rattle.std.proofs.lemmas.List.{append_assoc, take_all, take_at, take-take, length-take, take-append-le, length-append, length-reverse, length-take-le, take_more, take_more_set, reverse-append}
+use Rattle.machine.specs.Steps.{taking}
+use Rattle.machine.specs.declared.answers.Stop.{Stop}
+use Rattle.machine.specs.declared.parts.Entry.{Entry}
+use Rattle.machine.specs.declared.parts.Labelled.{Labelled}
+use Rattle.steps.specs.Walks.{newest, Takes}
 
 module _ {A : Type 0} where
   pub length_newest : (n : ℕ) (xs : List A) → n ≤ length xs → length (newest n xs) ≡ n
@@ -15,3 +19,50 @@ module _ {A : Type 0} where
   pub newest_put : (xs : List A) {ys : List A} {x : A} (depth i : ℕ) → ys ≡ set xs i x → depth ≡ i + 1 → i < length xs → newest depth ys ≡ x ∷ newest i xs
   newest_put xs {ys} {x} depth i written one inside =
       ap (newest depth) written ∙ ap (λ n. newest n (set xs i x)) one ∙ ap reverse (take_more_set xs i x inside) ∙ reverse-append (take i xs) (x ∷ [])
+
+  -- what lies beyond the entries in use
+  pub newest_on : (n : ℕ) (xs ys : List A) → n ≤ length xs → newest n (xs ++ ys) ≡ newest n xs
+  newest_on n xs ys le = ap reverse (take-append-le n xs ys le)
+
+  pub newest_pushed : (xs ys : List A) (x : A) → 0 < length ys → newest (length xs + 1) (xs ++ set ys 0 x) ≡ x ∷ newest (length xs) (xs ++ ys)
+  newest_pushed xs [] x room = absurd (omega arith)
+  newest_pushed xs (y ∷ ys) x room =
+      let one : length (xs ++ x ∷ []) ≡ length xs + 1 = omega (arith, length-append xs (x ∷ [])) in
+      ap (λ s. newest (length xs + 1) s) (sym (append_assoc xs (x ∷ []) ys))
+      ∙ ap reverse (take_at (xs ++ x ∷ []) ys (length xs + 1) one)
+      ∙ reverse-append xs (x ∷ [])
+      ∙ ap (λ s. x ∷ reverse s) (sym (take_at xs (y ∷ ys) (length xs) refl))
+
+  -- A walk from the newest entry down, when it comes to x: what is left of it.
+  pub record Walks (xs rest left : List A) (x : A) : Type 0 where
+    pub inside : length left < length xs
+    pub left_is : left ≡ take (length left) xs
+    pub from_rest : newest (length rest) xs ≡ x ∷ newest (length left) xs
+
+  pub walks : (xs rest left : List A) (x : A) → rest ≡ take (length rest) xs → rest ≡ left ++ x ∷ [] → Walks xs rest left x
+  walks xs rest left x rest_is more =
+      let one : length rest ≡ length left + 1 = ap length more ∙ length-append left (x ∷ []) in
+      let within : length rest ≤ length xs = omega (arith, ap length rest_is, length-take (length rest) xs) in
+      let left_is : left ≡ take (length left) xs =
+      sym (take_at left (x ∷ []) (length left) refl) ∙ ap (take (length left)) (sym more ∙ rest_is) ∙ take-take (length left) (length rest) xs (omega arith) in
+      record {
+        inside = omega arith;
+        left_is = left_is;
+        from_rest = ap reverse (sym rest_is ∙ more) ∙ reverse-append left (x ∷ []) ∙ ap (λ s. x ∷ reverse s) left_is;
+      }
+
+  -- of the first n elements alone
+  pub newest_first : (xs : List A) (n : ℕ) → n ≤ length xs → newest (length (take n xs)) (take n xs) ≡ newest n xs
+  newest_first xs n within = ap reverse (take_all (length (take n xs)) (take n xs) (omega arith))
+
+  pub newest_under : (xs : List A) (n : ℕ) → n ≤ length xs → newest (length (take n xs) - 1) (take n xs) ≡ newest (n - 1) xs
+  newest_under xs n within = ap (λ k. newest (k - 1) (take n xs)) (length-take-le n xs within) ∙ ap reverse (take-take (n - 1) n xs (omega arith))
+
+module _ {L : Type 0} where
+  -- The number on top of the first n entries, as it was found in them alone.
+  pub takes_first : (xs : List (Entry L)) (n : ℕ) (r : Result (Labelled L) Stop) → n ≤ length xs → Takes (take n xs) (length (take n xs)) r → Takes xs n r
+  takes_first xs n (Ok a) within took = (
+    omega (arith, length-take-le n xs within, took.0),
+    λ then. ap (λ s. taking s then) (sym (newest_first xs n within)) ∙ took.1 then ∙ ap (then a) (newest_under xs n within),
+  )
+  takes_first xs n (Err stop) within took = λ then. ap (λ s. taking s then) (sym (newest_first xs n within)) ∙ took then

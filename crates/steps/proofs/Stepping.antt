@@ -1,27 +1,117 @@
--- One step, by what stands at the program counter.
-use Rattle.std.proofs.Common.{◌≡◌, ℕ, zero, suc, ◌<◌, true, false, cond, List, Some, None, refl, ap, ◌∙◌, arith}
+-- What an operation comes to, and one step, by what stands at the program counter.
+use Rattle.std.proofs.Common.{◌≡◌, ℕ, zero, suc, ◌<◌, false, cond, List, Some, None, Ok, Err, Result, IsOkAnd, MatchResult, refl, sym, ap, subst, ◌∙◌, arith}
 use Rattle.labels.specs.Kind.{Kind}
 use Rattle.rules.specs.Tables.{Table}
-use Rattle.machine.specs.Steps.{Setup, Round, later, stopped, at_place, halts, halted, with_fuel, tried, attempt, step}
+use Rattle.machine.specs.Steps.{Setup, Round, stopped, at_place, halts, halted, with_fuel, tried, attempt, step}
+use Rattle.machine.specs.declared.answers.Stop.{Stop}
 use Rattle.machine.specs.declared.answers.Stop.TheVariants.{OutsideProgram}
+use Rattle.machine.specs.declared.parts.Entry.{Entry}
+use Rattle.machine.specs.declared.parts.Labelled.{Labelled}
 use Rattle.machine.specs.declared.parts.Operation.{Operation}
-use Rattle.steps.specs.Steps.{NotDone, OnlyDoneChanges, DoneFits}
+use Rattle.machine.specs.declared.parts.Operation.TheVariants.{Push, Pop, Noop, Add, Sub, Less, Load, Store, Jump, Bnz, Call, Return, Output, Halt}
+use Rattle.steps.specs.Operations.{round, Does}
+use Rattle.steps.specs.Steps.{NotDone, OnlyDoneChanges, DoneFits, Halts, Attempted, Steps}
+use Rattle.steps.specs.declared.registers.Registers.{Registers}
 use Rattle.steps.specs.declared.step.Outcome.{Outcome as CodeOutcome}
-use Rattle.steps.specs.declared.step.Outcome.TheVariants.{Finished, Later, Stopped, Done}
+use Rattle.steps.specs.declared.step.Outcome.TheVariants.{Finished, Later, Done}
 use Rattle.steps.proofs.Places.{place_there, place_none}
 
--- What was not done changes nothing.
-pub keeps : {L A : Type 0} (outcome : CodeOutcome L) (x : A) → NotDone outcome → OnlyDoneChanges outcome x x
-keeps Finished x not = refl
-keeps Later x not = refl
-keeps (Stopped stop) x not = refl
-keeps (Done r) x not = absurd not
+module _ {L : Type 0} where
+  -- What was not done changes nothing.
+  keeps : {A : Type 0} (answer : Result (CodeOutcome L) Stop) (x : A) → NotDone answer → OnlyDoneChanges answer x x
+  keeps (Ok Finished) x not = refl
+  keeps (Ok Later) x not = refl
+  keeps (Ok (Done r)) x not = absurd not
+  keeps (Err stop) x not = refl
 
-pub not_done_fits : {L : Type 0} (fuel stack log : ℕ) (outcome : CodeOutcome L) → NotDone outcome → DoneFits fuel stack log outcome
-not_done_fits fuel stack log Finished not = tt
-not_done_fits fuel stack log Later not = tt
-not_done_fits fuel stack log (Stopped stop) not = tt
-not_done_fits fuel stack log (Done r) not = absurd not
+  not_done_fits : (fuel stack log : ℕ) (answer : Result (CodeOutcome L) Stop) → NotDone answer → DoneFits fuel stack log answer
+  not_done_fits fuel stack log (Ok Finished) not = tt
+  not_done_fits fuel stack log (Ok Later) not = tt
+  not_done_fits fuel stack log (Ok (Done r)) not = absurd not
+  not_done_fits fuel stack log (Err stop) not = tt
+
+  -- the answer of an operation that was done or stopped
+  abbrev pub answer_of : Result (Registers L) Stop → Result (CodeOutcome L) Stop
+  answer_of (Ok q) = Ok (Done q)
+  answer_of (Err stop) = Err stop
+
+  -- what `map` makes of it
+  pub mapped : (done : Result (Registers L) Stop) (answer : Result (CodeOutcome L) Stop) → MatchResult done (λ q. IsOkAnd answer (λ o. o ≡ Done q)) (λ e. answer ≡ Err e) → answer ≡ answer_of done
+  mapped (Ok q) (Ok o) cases = ap Ok cases
+  mapped (Ok q) (Err e) cases = absurd cases
+  mapped (Err e) answer cases = cases
+
+  no_halt : (op : Operation L) → (op ≡ Halt → ⊥) → halts op ≡ false
+  no_halt (Push v) not = refl
+  no_halt Pop not = refl
+  no_halt Noop not = refl
+  no_halt Add not = refl
+  no_halt Sub not = refl
+  no_halt Less not = refl
+  no_halt Load not = refl
+  no_halt Store not = refl
+  no_halt Jump not = refl
+  no_halt (Bnz k) not = refl
+  no_halt (Call k due) not = refl
+  no_halt Return not = refl
+  no_halt Output not = refl
+  no_halt Halt not = absurd (not refl)
+
+  fuelled : (kind : Kind L) (table : Table L) (setup : Setup L) (op : Operation L) (fuel : ℕ) (s : Round L) → halts op ≡ false → 0 < fuel → attempt kind table setup fuel s op ≡ tried kind table setup op s
+  fuelled kind table setup op zero s not some = absurd (omega arith)
+  fuelled kind table setup op (suc fuel) s not some = ap (λ b. cond b (halted kind table setup s) (tried kind table setup op s)) not
+
+  module _ (kind : Kind L) {P : Type 0} {faithful : P → Table L → Type 0} {policy : P} {op : Operation L} {memory log : List (Labelled L)} {stack : List (Entry L)} {fuel : ℕ} {before : Registers L} where
+    pub attempted_halt : (stack' : List (Entry L)) (answer : Result (CodeOutcome L) Stop) → op ≡ Halt → stack' ≡ stack → Halts kind before answer → Attempted kind faithful policy policy op memory memory stack stack' log log fuel before answer
+    attempted_halt stack' answer is same halt =
+        let went : Attempted kind faithful policy policy op memory memory stack stack log log fuel before answer = record {
+          comes_to = λ table true setup _ _. halt.comes_to table setup memory log stack ∙ sym (ap (attempt kind table setup fuel (round before memory stack log)) is);
+          still = λ table true. true;
+          keeps_memory = keeps answer memory halt.not_done;
+          keeps_stack = keeps answer stack halt.not_done;
+          keeps_log = keeps answer log halt.not_done;
+          fits = not_done_fits fuel _ _ answer halt.not_done;
+        } in
+        subst (λ s. Attempted kind faithful policy policy op memory memory stack s log log fuel before answer) (sym same) went
+
+    pub attempted_later : (stack' : List (Entry L)) → (op ≡ Halt → ⊥) → fuel ≡ 0 → stack' ≡ stack → Attempted kind faithful policy policy op memory memory stack stack' log log fuel before (Ok Later)
+    attempted_later stack' not none same = record {
+      comes_to = λ table true setup _ _. let s = round before memory stack log in
+          sym (ap (λ b. cond b (halted kind table setup s) (with_fuel fuel (tried kind table setup op s))) (no_halt op not) ∙ ap (λ f. with_fuel f (tried kind table setup op s)) none);
+      still = λ table true. true;
+      keeps_memory = refl;
+      keeps_stack = same;
+      keeps_log = refl;
+      fits = tt;
+    }
+
+    pub attempted : {policy' : P} {memory' log' : List (Labelled L)} {stack' : List (Entry L)} (r : Result (Registers L) Stop) → halts op ≡ false → 0 < fuel
+        → Does faithful policy policy' memory memory' stack stack' log log' before r (λ table setup. tried kind table setup op)
+        → Attempted kind faithful policy policy' op memory memory' stack stack' log log' fuel before (answer_of r)
+    attempted {policy'} {memory'} {log'} {stack'} (Ok q) not some did = record {
+      comes_to = λ table true setup stacks logs. did.comes_to table true setup stacks logs ∙ sym (fuelled kind table setup op fuel _ not some);
+      still = did.still;
+      keeps_memory = tt;
+      keeps_stack = tt;
+      keeps_log = tt;
+      fits = (some, did.fits.0, did.fits.1);
+    }
+    attempted {policy'} {memory'} {log'} {stack'} (Err stop) not some did = record {
+      comes_to = λ table true setup stacks logs. did.comes_to table true setup stacks logs ∙ sym (fuelled kind table setup op fuel _ not some);
+      still = did.still;
+      keeps_memory = did.keeps_memory;
+      keeps_stack = did.keeps_stack;
+      keeps_log = did.keeps_log;
+      fits = tt;
+    }
+
+  -- An operation that was found to be another, with parts, registers and a result that are these.
+  pub found_as : (kind : Kind L) {P : Type 0} {faithful : P → Table L → Type 0} {policy policy' policy'' : P} {op op' : Operation L} {memory memory' memory'' log log' log'' : List (Labelled L)}
+      {stack stack' whole whole' : List (Entry L)} {before before' : Registers L} {r r' : Result (Registers L) Stop}
+      → op ≡ op' → stack ≡ whole → before ≡ before' → policy' ≡ policy'' → memory' ≡ memory'' → stack' ≡ whole' → log' ≡ log'' → r ≡ r'
+      → Does faithful policy policy'' memory memory'' whole whole' log log'' before' r' (λ table setup. tried kind table setup op')
+      → Does faithful policy policy' memory memory' stack stack' log log' before r (λ table setup. tried kind table setup op)
+  found_as kind op_is stack_is before_is policy_is memory_is after_is log_is r_is did = rw (op_is, stack_is, before_is, policy_is, memory_is, after_is, log_is, r_is) did
 
 module _ {L : Type 0} (kind : Kind L) (table : Table L) (setup : Setup L) (fuel : ℕ) (s : Round L) (program : List (Operation L)) (is : setup.program ≡ program) where
   fetch : step kind table setup fuel s ≡ at_place program s.pc (stopped OutsideProgram) (attempt kind table setup fuel s)
@@ -30,22 +120,29 @@ module _ {L : Type 0} (kind : Kind L) (table : Table L) (setup : Setup L) (fuel 
   pub steps_outside : at_place program s.pc None Some ≡ None → step kind table setup fuel s ≡ stopped OutsideProgram
   steps_outside none = fetch ∙ place_none _ _ program s.pc none
 
-  module _ (op : Operation L) (there : at_place program s.pc None Some ≡ Some op) where
-    attempted : step kind table setup fuel s ≡ attempt kind table setup fuel s op
-    attempted = fetch ∙ place_there _ _ program s.pc op there
+  pub steps_on : (op : Operation L) → at_place program s.pc None Some ≡ Some op → step kind table setup fuel s ≡ attempt kind table setup fuel s op
+  steps_on op there = fetch ∙ place_there _ _ program s.pc op there
 
-    pub steps_halt : halts op ≡ true → step kind table setup fuel s ≡ halted kind table setup s
-    steps_halt halt = attempted ∙ ap (λ b. cond b (halted kind table setup s) (with_fuel fuel (tried kind table setup op s))) halt
+module _ {L : Type 0} (kind : Kind L) {P : Type 0} {faithful : P → Table L → Type 0} {policy : P} {program : List (Operation L)} {memory log : List (Labelled L)} {stack : List (Entry L)} {fuel : ℕ} (before : Registers L) where
+  pub steps_stopped : {answer : Result (CodeOutcome L) Stop} → answer ≡ Err OutsideProgram → at_place program before.pc None Some ≡ None
+      → Steps kind faithful policy policy program memory memory stack stack log log fuel before answer
+  steps_stopped is none = rw is (record {
+    comes_to = λ table true setup programs _ _. sym (steps_outside kind table setup fuel (round before memory stack log) program programs none);
+    still = λ table true. true;
+    keeps_memory = refl;
+    keeps_stack = refl;
+    keeps_log = refl;
+    fits = tt;
+  })
 
-    with_fuel_only : halts op ≡ false → step kind table setup fuel s ≡ with_fuel fuel (tried kind table setup op s)
-    with_fuel_only no_halt = attempted ∙ ap (λ b. cond b (halted kind table setup s) (with_fuel fuel (tried kind table setup op s))) no_halt
-
-    pub steps_later : halts op ≡ false → fuel ≡ 0 → step kind table setup fuel s ≡ later
-    steps_later no_halt none = with_fuel_only no_halt ∙ ap (λ f. with_fuel f (tried kind table setup op s)) none
-
-    pub steps_tried : halts op ≡ false → 0 < fuel → step kind table setup fuel s ≡ tried kind table setup op s
-    steps_tried no_halt some = with_fuel_only no_halt ∙ fuelled fuel some
-      where
-        fuelled : (f : ℕ) → 0 < f → with_fuel f (tried kind table setup op s) ≡ tried kind table setup op s
-        fuelled zero none = absurd (omega arith)
-        fuelled (suc f) some = refl
+  pub steps_attempted : {policy' : P} {memory' log' : List (Labelled L)} {stack' : List (Entry L)} {answer : Result (CodeOutcome L) Stop} (op : Operation L) → at_place program before.pc None Some ≡ Some op
+      → Attempted kind faithful policy policy' op memory memory' stack stack' log log' fuel before answer
+      → Steps kind faithful policy policy' program memory memory' stack stack' log log' fuel before answer
+  steps_attempted op there went = record {
+    comes_to = λ table true setup programs stacks logs. went.comes_to table true setup stacks logs ∙ sym (steps_on kind table setup fuel (round before memory stack log) program programs op there);
+    still = went.still;
+    keeps_memory = went.keeps_memory;
+    keeps_stack = went.keeps_stack;
+    keeps_log = went.keeps_log;
+    fits = went.fits;
+  }

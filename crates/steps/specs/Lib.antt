@@ -1,3 +1,4 @@
+pub mod Places
 pub mod Walks
 pub mod Operations
 pub mod Steps

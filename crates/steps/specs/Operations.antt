@@ -1,5 +1,5 @@
 -- What an operation in code does, in the words of the machine's step. Assumes nothing.
-use Rattle.std.specs.Prelude.{◌≡◌, ℕ, ◌≤◌, List, length, take, ℤ, pos, ◌≤ℤ◌, Ok, Err, Option, Result}
+use Rattle.std.specs.Prelude.{◌≡◌, ℕ, ◌≤◌, List, ◌++◌, length, take, ℤ, Ok, Err, Option, Result}
 use Rattle.rules.specs.Tables.{Table}
 use Rattle.rules.specs.declared.Opcode.{Opcode}
 use Rattle.rules.specs.declared.Opcode.TheVariants as opcode
@@ -13,10 +13,7 @@ use Rattle.steps.specs.Walks.{newest}
 use Rattle.steps.specs.declared.arithmetic.Arithmetic.{Arithmetic}
 use Rattle.steps.specs.declared.arithmetic.Arithmetic.TheVariants.{Add, Sub, Less}
 use Rattle.steps.specs.declared.registers.Registers.{Registers}
-
--- A place of a program: no program is longer than 4,096 operations.
-abbrev pub InProgram : ℤ → Type 0
-InProgram place = (pos 0 ≤ℤ place) × (place ≤ℤ pos 4095)
+use Rattle.steps.specs.declared.registers.Fetched.{Fetched}
 
 -- What two numbers give, b beneath a, and under which name the policy is asked about it.
 abbrev pub applied : Arithmetic → ℤ → ℤ → ℤ
@@ -53,6 +50,10 @@ module _ {L : Type 0} where
     kept = record { memory = memory; commands = take r.commands log };
   }
 
+  -- The registers that an operation starts from, with so many entries in use.
+  abbrev pub starting : Fetched L → ℕ → Registers L
+  starting start depth = registers start.pc.number start.pc_label depth start.commands
+
   -- An operation was done, with these registers after it, or stopped.
   abbrev pub outcome : Result (Registers L) Stop → (Registers L → Round L) → Outcome L
   outcome (Ok r) after = done (after r)
@@ -86,12 +87,14 @@ module _ {P L : Type 0} (faithful : P → Table L → Type 0) where
     pub keeps_log : StopKeeps r log log'
     pub fits : Fits (length stack) (length log) r
 
-  -- An operation that is handed the stack alone, whatever memory and log are.
-  abbrev pub OnStack : P → P → List (Entry L) → List (Entry L) → Registers L → Result (Registers L) Stop → (Table L → Setup L → Round L → Outcome L) → Type 0
-  OnStack policy policy' stack stack' before r defined =
-      (memory log : List (Labelled L)) → before.commands ≤ length log → Does policy policy' memory memory stack stack' log log before r defined
+  -- An operation that is handed the entries in use alone, whatever lies beyond them and whatever memory and log are.
+  abbrev pub OnStack : P → P → List (Entry L) → List (Entry L) → Fetched L → Result (Registers L) Stop → (Table L → Setup L → Round L → Outcome L) → Type 0
+  OnStack policy policy' used used' start r defined =
+      (free : List (Entry L)) (memory log : List (Labelled L)) → start.commands ≤ length log
+      → Does policy policy' memory memory (used ++ free) (used' ++ free) log log (starting start (length used)) r defined
 
-  -- An operation that is handed the memory and the stack, which it leaves as it is, whatever the log is.
-  abbrev pub OnMemory : P → P → List (Labelled L) → List (Labelled L) → List (Entry L) → Registers L → Result (Registers L) Stop → (Table L → Setup L → Round L → Outcome L) → Type 0
-  OnMemory policy policy' memory memory' stack before r defined =
-      (log : List (Labelled L)) → before.commands ≤ length log → Does policy policy' memory memory' stack stack log log before r defined
+  -- An operation that is handed the memory and the entries in use, which it leaves as they are, whatever the rest is.
+  abbrev pub OnMemory : P → P → List (Labelled L) → List (Labelled L) → List (Entry L) → Fetched L → Result (Registers L) Stop → (Table L → Setup L → Round L → Outcome L) → Type 0
+  OnMemory policy policy' memory memory' used start r defined =
+      (free : List (Entry L)) (log : List (Labelled L)) → start.commands ≤ length log
+      → Does policy policy' memory memory' (used ++ free) (used ++ free) log log (starting start (length used)) r defined

@@ -1,59 +1,71 @@
 -- What one step in code does, in the words of the machine's step. Assumes nothing.
-use Rattle.std.specs.Prelude.{◌≡◌, ℕ, ◌<◌, ◌≤◌, List, length}
+use Rattle.std.specs.Prelude.{◌≡◌, ℕ, ◌<◌, ◌≤◌, List, length, Ok, Err, Result}
 use Rattle.labels.specs.Kind.{Kind}
 use Rattle.rules.specs.Tables.{Table}
-use Rattle.machine.specs.Steps.{Setup, Round, Outcome, finished, later, stopped, done, halted, step}
+use Rattle.machine.specs.Steps.{Setup, Round, Outcome, finished, later, stopped, done, halted, attempt, step}
+use Rattle.machine.specs.declared.answers.Stop.{Stop}
 use Rattle.machine.specs.declared.parts.Entry.{Entry}
 use Rattle.machine.specs.declared.parts.Labelled.{Labelled}
 use Rattle.machine.specs.declared.parts.Operation.{Operation}
 use Rattle.steps.specs.Operations.{round}
 use Rattle.steps.specs.declared.registers.Registers.{Registers}
 use Rattle.steps.specs.declared.step.Outcome.{Outcome as CodeOutcome}
-use Rattle.steps.specs.declared.step.Outcome.TheVariants.{Finished, Later, Stopped, Done}
+use Rattle.steps.specs.declared.step.Outcome.TheVariants.{Finished, Later, Done}
 
 module _ {L : Type 0} where
   -- the outcome that the definitions speak of
-  abbrev pub step_outcome : CodeOutcome L → (Registers L → Round L) → Outcome L
-  step_outcome Finished after = finished
-  step_outcome Later after = later
-  step_outcome (Stopped stop) after = stopped stop
-  step_outcome (Done r) after = done (after r)
+  abbrev pub step_outcome : Result (CodeOutcome L) Stop → (Registers L → Round L) → Outcome L
+  step_outcome (Ok Finished) after = finished
+  step_outcome (Ok Later) after = later
+  step_outcome (Ok (Done r)) after = done (after r)
+  step_outcome (Err stop) after = stopped stop
 
   -- A step that did no operation leaves a part as it was.
-  abbrev pub OnlyDoneChanges : {A : Type 0} → CodeOutcome L → A → A → Type 0
-  OnlyDoneChanges Finished before after = after ≡ before
-  OnlyDoneChanges Later before after = after ≡ before
-  OnlyDoneChanges (Stopped stop) before after = after ≡ before
-  OnlyDoneChanges (Done r) before after = Unit {0}
+  abbrev pub OnlyDoneChanges : {A : Type 0} → Result (CodeOutcome L) Stop → A → A → Type 0
+  OnlyDoneChanges (Ok Finished) before after = after ≡ before
+  OnlyDoneChanges (Ok Later) before after = after ≡ before
+  OnlyDoneChanges (Ok (Done r)) before after = Unit {0}
+  OnlyDoneChanges (Err stop) before after = after ≡ before
 
   -- An operation is done with fuel only, and no more entries and commands are in use then than there is room for.
-  abbrev pub DoneFits : ℕ → ℕ → ℕ → CodeOutcome L → Type 0
-  DoneFits fuel stack log Finished = Unit {0}
-  DoneFits fuel stack log Later = Unit {0}
-  DoneFits fuel stack log (Stopped stop) = Unit {0}
-  DoneFits fuel stack log (Done r) = (0 < fuel) × (r.depth ≤ stack) × (r.commands ≤ log)
+  abbrev pub DoneFits : ℕ → ℕ → ℕ → Result (CodeOutcome L) Stop → Type 0
+  DoneFits fuel stack log (Ok Finished) = Unit {0}
+  DoneFits fuel stack log (Ok Later) = Unit {0}
+  DoneFits fuel stack log (Ok (Done r)) = (0 < fuel) × (r.depth ≤ stack) × (r.commands ≤ log)
+  DoneFits fuel stack log (Err stop) = Unit {0}
 
   -- nothing was done
-  abbrev pub NotDone : CodeOutcome L → Type 0
-  NotDone Finished = Unit {0}
-  NotDone Later = Unit {0}
-  NotDone (Stopped stop) = Unit {0}
-  NotDone (Done r) = ⊥
+  abbrev pub NotDone : Result (CodeOutcome L) Stop → Type 0
+  NotDone (Ok Finished) = Unit {0}
+  NotDone (Ok Later) = Unit {0}
+  NotDone (Ok (Done r)) = ⊥
+  NotDone (Err stop) = Unit {0}
 
   -- what a halt comes to
-  pub record Halts (kind : Kind L) (before : Registers L) (outcome : CodeOutcome L) : Type 0 where
+  pub record Halts (kind : Kind L) (before : Registers L) (answer : Result (CodeOutcome L) Stop) : Type 0 where
     pub comes_to : (table : Table L) (setup : Setup L) (memory log : List (Labelled L)) (stack : List (Entry L))
-        → step_outcome outcome (λ q. round q memory stack log) ≡ halted kind table setup (round before memory stack log)
-    pub not_done : NotDone outcome
+        → step_outcome answer (λ q. round q memory stack log) ≡ halted kind table setup (round before memory stack log)
+    pub not_done : NotDone answer
+
+  -- An operation tried with so much fuel left, with what each part holds before and after it, in the same words as a step.
+  pub record Attempted {P : Type 0} (kind : Kind L) (faithful : P → Table L → Type 0) (policy policy' : P) (op : Operation L) (memory memory' : List (Labelled L)) (stack stack' : List (Entry L)) (log log' : List (Labelled L)) (fuel : ℕ) (before : Registers L) (answer : Result (CodeOutcome L) Stop) : Type 0 where
+    pub comes_to : (table : Table L) → faithful policy table
+        → (setup : Setup L) → setup.sizes.stack ≡ length stack → setup.sizes.log ≡ length log
+        → step_outcome answer (λ q. round q memory' stack' log') ≡ attempt kind table setup fuel (round before memory stack log) op
+    pub still : (table : Table L) → faithful policy table → faithful policy' table
+    pub keeps_memory : OnlyDoneChanges answer memory memory'
+    pub keeps_stack : OnlyDoneChanges answer stack stack'
+    pub keeps_log : OnlyDoneChanges answer log log'
+    pub fits : DoneFits fuel (length stack) (length log) answer
 
   -- A step, with what each part holds before and after it: over every table that the policy is true to it comes to what is defined.
   -- Whatever the policy, what was not done changes nothing, and what is in use fits.
-  pub record Steps {P : Type 0} (kind : Kind L) (faithful : P → Table L → Type 0) (policy policy' : P) (program : List (Operation L)) (memory memory' : List (Labelled L)) (stack stack' : List (Entry L)) (log log' : List (Labelled L)) (fuel : ℕ) (before : Registers L) (outcome : CodeOutcome L) : Type 0 where
+  pub record Steps {P : Type 0} (kind : Kind L) (faithful : P → Table L → Type 0) (policy policy' : P) (program : List (Operation L)) (memory memory' : List (Labelled L)) (stack stack' : List (Entry L)) (log log' : List (Labelled L)) (fuel : ℕ) (before : Registers L) (answer : Result (CodeOutcome L) Stop) : Type 0 where
     pub comes_to : (table : Table L) → faithful policy table
         → (setup : Setup L) → setup.program ≡ program → setup.sizes.stack ≡ length stack → setup.sizes.log ≡ length log
-        → step_outcome outcome (λ q. round q memory' stack' log') ≡ step kind table setup fuel (round before memory stack log)
+        → step_outcome answer (λ q. round q memory' stack' log') ≡ step kind table setup fuel (round before memory stack log)
     pub still : (table : Table L) → faithful policy table → faithful policy' table
-    pub keeps_memory : OnlyDoneChanges outcome memory memory'
-    pub keeps_stack : OnlyDoneChanges outcome stack stack'
-    pub keeps_log : OnlyDoneChanges outcome log log'
-    pub fits : DoneFits fuel (length stack) (length log) outcome
+    pub keeps_memory : OnlyDoneChanges answer memory memory'
+    pub keeps_stack : OnlyDoneChanges answer stack stack'
+    pub keeps_log : OnlyDoneChanges answer log log'
+    pub fits : DoneFits fuel (length stack) (length log) answer

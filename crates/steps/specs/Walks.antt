@@ -1,5 +1,5 @@
 -- What the walks over the lent parts find. Assumes nothing.
-use Rattle.std.specs.Prelude.{◌≡◌, ℕ, suc, ◌-◌, ◌<◌, List, [], ◌∷◌, reverse, length, take, ℤ, pos, Some, None, Ok, Err, Option, Result}
+use Rattle.std.specs.Prelude.{◌≡◌, ℕ, Bool, true, false, suc, ◌-◌, ◌<◌, List, [], ◌∷◌, reverse, length, take, ℤ, pos, Some, None, Ok, Err, Option, Result}
 use Rattle.machine.specs.Steps.{Outcome, stopped, at_place, taking, nearest_frame}
 use Rattle.machine.specs.declared.answers.Stop.{Stop}
 use Rattle.machine.specs.declared.answers.Stop.TheVariants.{OutsideMemory}
@@ -19,6 +19,10 @@ Finds part place None = at_place part place None Some ≡ None
 Finds part place (Some found) = (place ≡ pos found.index) × (found.index < length part) × (at_place part place None Some ≡ Some found.element)
 
 module _ {L : Type 0} where
+  abbrev pub is_number : Entry L → Bool
+  is_number (Number a) = true
+  is_number (Frame f) = false
+
   -- how many numbers lie above the nearest frame
   abbrev pub numbers_on_top : List (Entry L) → ℕ
   numbers_on_top [] = 0

@@ -3,9 +3,11 @@
 
 mod arithmetic;
 mod operations;
+mod place;
 mod registers;
 mod step;
 mod walks;
 
-pub use registers::Registers;
+pub use place::Place;
+pub use registers::{Fetched, Registers};
 pub use step::Outcome;

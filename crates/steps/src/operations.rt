@@ -1,15 +1,15 @@
-// The operations, each over the registers and the parts that it reaches. An operation gives the registers after it, or the stop.
-ghost use Rattle.std.specs.Prelude.{◌≡◌, ◌<◌, ◌≤◌, true, false, List, length, pos, ◌+ℤ◌};
+// The operations, each over the entries in use and the parts that it reaches. An operation gives the registers after it, or the stop.
+ghost use Rattle.std.specs.Prelude.{◌≡◌, ◌+◌, ◌^◌, ◌<◌, ◌≤◌, ◌++◌, true, false, List, length, pos, ◌+ℤ◌};
 ghost use Rattle.machine.specs.Steps.{tried, arithmetic as arithmetic_on, return_to};
 ghost use Rattle.machine.specs.declared.parts.Entry.{Entry as EntryD};
 ghost use Rattle.machine.specs.declared.parts.Labelled.{Labelled as LabelledD};
 ghost use Rattle.machine.specs.declared.parts.Operation.TheVariants.{Push, Pop, Noop, Load, Store, Jump, Bnz, Call, Return, Output};
-ghost use Rattle.steps.specs.Operations.{InProgram, applied, labelled as labelled_with, opcode_of, registers as registers_of, request, Rules, Under, Does, OnStack, OnMemory};
+ghost use Rattle.steps.specs.Operations.{applied, labelled as labelled_with, opcode_of, registers as registers_of, starting, request as request_of, Rules, Under, Does, OnStack, OnMemory};
 ghost use Rattle.steps.specs.Walks.{newest};
 
-use crate::arithmetic::{Arithmetic, branch};
-use crate::registers::Registers;
-use crate::walks::{Found, find_cell, has_numbers, insert_under, nearest_frame, put, top_number};
+use crate::arithmetic::Arithmetic;
+use crate::registers::{Fetched, Registers};
+use crate::walks::{Found, find_cell, has_numbers, insert_under, nearest_frame, top_number};
 use labels::Label;
 use machine::{Entry, Frame, Labelled, Stop};
 use rules::{Opcode, Policy, Request, Verdict};
@@ -18,14 +18,18 @@ use rules::{Opcode, Policy, Request, Verdict};
 fn relabelled<L: Copy>(number: Labelled<L>, label: L) -> Labelled<L>
     ensures { result ≡ labelled_with number.value label }
 {
-    Labelled {
-        value: number.value,
-        label,
-    }
+    Labelled { label, ..number }
 }
 
-impl<L: Label> Registers<L> {
-    // At a place, with this label and so many entries on the stack.
+// Asks the policy.
+fn ask<P: Policy<L>, L: Label>(policy: &mut P, request: Request<L>) -> Result<Verdict<L>, Stop>
+    ensures { Under P.Policy.faithful policy.old policy.new (λ table. Rules (table request) result) }
+{
+    policy.rule(request).ok_or(Stop::Forbidden)
+}
+
+impl<L: Label> Fetched<L> {
+    // The registers at a place, with this label and so many entries in use.
     fn goto(self, pc: i64, pc_label: L, depth: usize) -> Registers<L>
         ensures { result ≡ registers_of pc pc_label depth self.commands }
     {
@@ -33,248 +37,230 @@ impl<L: Label> Registers<L> {
             pc,
             pc_label,
             depth,
-            ..self
+            commands: self.commands,
         }
-    }
-
-    // The place after this one.
-    fn next_place(self) -> i64
-        requires { InProgram self.pc }
-        ensures { result ≡ self.pc +ℤ pos 1 }
-    {
-        self.pc + 1
     }
 
     // On to the next place.
     fn next(self, pc_label: L, depth: usize) -> Registers<L>
-        requires { InProgram self.pc }
-        ensures { result ≡ registers_of (self.pc +ℤ pos 1) pc_label depth self.commands }
+        ensures { result ≡ registers_of (self.pc.number +ℤ pos 1) pc_label depth self.commands }
     {
-        self.goto(self.next_place(), pc_label, depth)
+        self.goto(self.pc.next(), pc_label, depth)
     }
 
-    // Asks the policy about an operation at this program counter.
-    fn ask<P: Policy<L>>(
-        self,
-        policy: &mut P,
-        op: Opcode,
-        a: L,
-        b: L,
-        c: L,
-    ) -> Result<Verdict<L>, Stop>
-        ensures { Under P.Policy.faithful policy.old policy.new (λ table. Rules (table (request op self.pc_label a b c)) result) }
+    // What the policy is asked about an operation on no labels: the labels that an operation leaves out are bottom.
+    fn request(self, op: Opcode) -> Request<L>
+        ensures { result ≡ request_of op self.pc_label L.Label.kind.bottom L.Label.kind.bottom L.Label.kind.bottom }
     {
-        let pc = self.pc_label;
-        match policy.rule(Request { op, pc, a, b, c }) {
-            Some(verdict) => Ok(verdict),
-            None => Err(Stop::Forbidden),
+        let none = L::bottom();
+        Request {
+            op,
+            pc: self.pc_label,
+            a: none,
+            b: none,
+            c: none,
         }
-    }
-
-    // The same for an operation on two labels; the third is bottom.
-    fn ask_two<P: Policy<L>>(
-        self,
-        policy: &mut P,
-        op: Opcode,
-        a: L,
-        b: L,
-    ) -> Result<Verdict<L>, Stop>
-        ensures { Under P.Policy.faithful policy.old policy.new (λ table. Rules (table (request op self.pc_label a b L.Label.kind.bottom)) result) }
-    {
-        self.ask(policy, op, a, b, L::bottom())
-    }
-
-    // The same for an operation on one label.
-    fn ask_one<P: Policy<L>>(self, policy: &mut P, op: Opcode, a: L) -> Result<Verdict<L>, Stop>
-        ensures { Under P.Policy.faithful policy.old policy.new (λ table. Rules (table (request op self.pc_label a L.Label.kind.bottom L.Label.kind.bottom)) result) }
-    {
-        self.ask_two(policy, op, a, L::bottom())
-    }
-
-    // The same for an operation that makes one number of two.
-    fn ask_arithmetic<P: Policy<L>>(
-        self,
-        policy: &mut P,
-        op: Arithmetic,
-        a: L,
-        b: L,
-    ) -> Result<Verdict<L>, Stop>
-        ensures { Under P.Policy.faithful policy.old policy.new (λ table. Rules (table (request (opcode_of op) self.pc_label a b L.Label.kind.bottom)) result) }
-    {
-        self.ask_two(policy, op.opcode(), a, b)
     }
 
     pub fn push<P: Policy<L>>(
         self,
         number: Labelled<L>,
-        stack: &mut [Entry<L>],
+        used: &[Entry<L>],
+        free: &mut [Entry<L>],
         policy: &mut P,
     ) -> Result<Registers<L>, Stop>
-        requires stack_holds { self.depth ≤ length stack.old }
-        requires in_program { InProgram self.pc }
-        ensures { OnStack P.Policy.faithful policy.old policy.new stack.old stack.new self result (λ table setup. tried L.Label.kind table setup (Push number)) }
+        requires { length used.now + length free.old < 2 ^ 64 }
+        ensures { (memory log : List (LabelledD L)) → self.commands ≤ length log → Does P.Policy.faithful policy.old policy.new memory memory (used.now ++ free.old) (used.now ++ free.new) log log (starting self (length used.now)) result (λ table setup. tried L.Label.kind table setup (Push number)) }
     {
-        if self.depth >= stack.len() {
+        if free.is_empty() {
             return Err(Stop::StackFull);
         }
-        let verdict = self.ask_one(policy, Opcode::Push, number.label)?;
-        put(
-            stack,
-            self.depth,
-            Entry::Number(relabelled(number, verdict.result)),
-        );
-        Ok(self.next(verdict.pc, self.depth + 1))
+        let verdict = ask(
+            policy,
+            Request {
+                a: number.label,
+                ..self.request(Opcode::Push)
+            },
+        )?;
+        free[0] = Entry::Number(relabelled(number, verdict.result));
+        Ok(self.next(verdict.pc, used.len() + 1))
     }
 
-    pub fn pop<P: Policy<L>>(self, stack: &[Entry<L>], policy: &mut P) -> Result<Registers<L>, Stop>
-        requires stack_holds { self.depth ≤ length stack.now }
-        requires in_program { InProgram self.pc }
-        ensures { OnStack P.Policy.faithful policy.old policy.new stack.now stack.now self result (λ table setup. tried L.Label.kind table setup Pop) }
+    pub fn pop<P: Policy<L>>(self, used: &[Entry<L>], policy: &mut P) -> Result<Registers<L>, Stop>
+        ensures { OnStack P.Policy.faithful policy.old policy.new used.now used.now self result (λ table setup. tried L.Label.kind table setup Pop) }
     {
-        let a = top_number(stack, self.depth)?;
-        let verdict = self.ask_one(policy, Opcode::Pop, a.label)?;
-        Ok(self.next(verdict.pc, self.depth - 1))
+        let a = top_number(used)?;
+        let verdict = ask(
+            policy,
+            Request {
+                a: a.label,
+                ..self.request(Opcode::Pop)
+            },
+        )?;
+        Ok(self.next(verdict.pc, used.len() - 1))
     }
 
-    pub fn noop<P: Policy<L>>(self, policy: &mut P) -> Result<Registers<L>, Stop>
-        requires { InProgram self.pc }
-        ensures { (stack : List (EntryD L)) → self.depth ≤ length stack → OnStack P.Policy.faithful policy.old policy.new stack stack self result (λ table setup. tried L.Label.kind table setup Noop) }
+    pub fn noop<P: Policy<L>>(self, used: &[Entry<L>], policy: &mut P) -> Result<Registers<L>, Stop>
+        ensures { OnStack P.Policy.faithful policy.old policy.new used.now used.now self result (λ table setup. tried L.Label.kind table setup Noop) }
     {
-        let verdict = self.ask_one(policy, Opcode::Noop, L::bottom())?;
-        Ok(self.next(verdict.pc, self.depth))
+        let verdict = ask(policy, self.request(Opcode::Noop))?;
+        Ok(self.next(verdict.pc, used.len()))
     }
 
     pub fn arithmetic<P: Policy<L>>(
         self,
         op: Arithmetic,
-        stack: &mut [Entry<L>],
+        used: &mut [Entry<L>],
         policy: &mut P,
     ) -> Result<Registers<L>, Stop>
-        requires stack_holds { self.depth ≤ length stack.old }
-        requires in_program { InProgram self.pc }
-        ensures { OnStack P.Policy.faithful policy.old policy.new stack.old stack.new self result (λ table setup. arithmetic_on L.Label.kind table setup (opcode_of op) (applied op)) }
+        ensures { OnStack P.Policy.faithful policy.old policy.new used.old used.new self result (λ table setup. arithmetic_on L.Label.kind table setup (opcode_of op) (applied op)) }
     {
-        let a = top_number(stack, self.depth)?;
-        let b = top_number(stack, self.depth - 1)?;
-        let verdict = self.ask_arithmetic(policy, op, a.label, b.label)?;
-        put(
-            stack,
-            self.depth - 2,
-            Entry::Number(op.apply(b, a, verdict.result)),
-        );
-        Ok(self.next(verdict.pc, self.depth - 1))
+        let a = top_number(used)?;
+        let depth = used.len() - 1;
+        let b = top_number(&used[..depth])?;
+        let verdict = ask(
+            policy,
+            Request {
+                a: a.label,
+                b: b.label,
+                ..self.request(op.into())
+            },
+        )?;
+        used[depth - 1] = Entry::Number(Labelled {
+            value: op.apply(b.value, a.value),
+            label: verdict.result,
+        });
+        Ok(self.next(verdict.pc, depth))
     }
 
     pub fn load<P: Policy<L>>(
         self,
         memory: &[Labelled<L>],
-        stack: &mut [Entry<L>],
+        used: &mut [Entry<L>],
         policy: &mut P,
     ) -> Result<Registers<L>, Stop>
-        requires stack_holds { self.depth ≤ length stack.old }
-        requires in_program { InProgram self.pc }
-        ensures { (log : List (LabelledD L)) → self.commands ≤ length log → Does P.Policy.faithful policy.old policy.new memory.now memory.now stack.old stack.new log log self result (λ table setup. tried L.Label.kind table setup Load) }
+        ensures { (free : List (EntryD L)) (log : List (LabelledD L)) → self.commands ≤ length log → Does P.Policy.faithful policy.old policy.new memory.now memory.now (used.old ++ free) (used.new ++ free) log log (starting self (length used.old)) result (λ table setup. tried L.Label.kind table setup Load) }
     {
-        let a = top_number(stack, self.depth)?;
+        let a = top_number(used)?;
         let Found { element: cell, .. } = find_cell(memory, a)?;
-        let verdict = self.ask_two(policy, Opcode::Load, a.label, cell.label)?;
-        put(
-            stack,
-            self.depth - 1,
-            Entry::Number(relabelled(cell, verdict.result)),
-        );
-        Ok(self.next(verdict.pc, self.depth))
+        let verdict = ask(
+            policy,
+            Request {
+                a: a.label,
+                b: cell.label,
+                ..self.request(Opcode::Load)
+            },
+        )?;
+        let depth = used.len();
+        used[depth - 1] = Entry::Number(relabelled(cell, verdict.result));
+        Ok(self.next(verdict.pc, depth))
     }
 
     pub fn store<P: Policy<L>>(
         self,
         memory: &mut [Labelled<L>],
-        stack: &[Entry<L>],
+        used: &[Entry<L>],
         policy: &mut P,
     ) -> Result<Registers<L>, Stop>
-        requires stack_holds { self.depth ≤ length stack.now }
-        requires in_program { InProgram self.pc }
-        ensures { OnMemory P.Policy.faithful policy.old policy.new memory.old memory.new stack.now self result (λ table setup. tried L.Label.kind table setup Store) }
+        ensures { OnMemory P.Policy.faithful policy.old policy.new memory.old memory.new used.now self result (λ table setup. tried L.Label.kind table setup Store) }
     {
-        let a = top_number(stack, self.depth)?;
-        let b = top_number(stack, self.depth - 1)?;
+        let a = top_number(used)?;
+        let depth = used.len() - 1;
+        let b = top_number(&used[..depth])?;
         let Found {
             index,
             element: cell,
         } = find_cell(memory, a)?;
-        let verdict = self.ask(policy, Opcode::Store, a.label, b.label, cell.label)?;
-        put(memory, index, relabelled(b, verdict.result));
-        Ok(self.next(verdict.pc, self.depth - 2))
+        let verdict = ask(
+            policy,
+            Request {
+                a: a.label,
+                b: b.label,
+                c: cell.label,
+                ..self.request(Opcode::Store)
+            },
+        )?;
+        memory[index] = relabelled(b, verdict.result);
+        Ok(self.next(verdict.pc, depth - 1))
     }
 
-    pub fn jump<P: Policy<L>>(
-        self,
-        stack: &[Entry<L>],
-        policy: &mut P,
-    ) -> Result<Registers<L>, Stop>
-        requires { self.depth ≤ length stack.now }
-        ensures { OnStack P.Policy.faithful policy.old policy.new stack.now stack.now self result (λ table setup. tried L.Label.kind table setup Jump) }
+    pub fn jump<P: Policy<L>>(self, used: &[Entry<L>], policy: &mut P) -> Result<Registers<L>, Stop>
+        ensures { OnStack P.Policy.faithful policy.old policy.new used.now used.now self result (λ table setup. tried L.Label.kind table setup Jump) }
     {
-        let a = top_number(stack, self.depth)?;
-        let verdict = self.ask_one(policy, Opcode::Jump, a.label)?;
-        Ok(self.goto(i64::from(a.value), verdict.pc, self.depth - 1))
+        let a = top_number(used)?;
+        let verdict = ask(
+            policy,
+            Request {
+                a: a.label,
+                ..self.request(Opcode::Jump)
+            },
+        )?;
+        Ok(self.goto(i64::from(a.value), verdict.pc, used.len() - 1))
     }
 
     pub fn bnz<P: Policy<L>>(
         self,
         by: i32,
-        stack: &[Entry<L>],
+        used: &[Entry<L>],
         policy: &mut P,
     ) -> Result<Registers<L>, Stop>
-        requires stack_holds { self.depth ≤ length stack.now }
-        requires in_program { InProgram self.pc }
-        ensures { OnStack P.Policy.faithful policy.old policy.new stack.now stack.now self result (λ table setup. tried L.Label.kind table setup (Bnz by)) }
+        ensures { OnStack P.Policy.faithful policy.old policy.new used.now used.now self result (λ table setup. tried L.Label.kind table setup (Bnz by)) }
     {
-        let a = top_number(stack, self.depth)?;
-        let verdict = self.ask_one(policy, Opcode::Bnz, a.label)?;
-        Ok(self.goto(branch(self.pc, by, a.value), verdict.pc, self.depth - 1))
+        let a = top_number(used)?;
+        let verdict = ask(
+            policy,
+            Request {
+                a: a.label,
+                ..self.request(Opcode::Bnz)
+            },
+        )?;
+        Ok(self.goto(self.pc.branch(by, a.value), verdict.pc, used.len() - 1))
     }
 
     pub fn call<P: Policy<L>>(
         self,
         count: u8,
         due: bool,
-        stack: &mut [Entry<L>],
+        used: &mut [Entry<L>],
         policy: &mut P,
     ) -> Result<Registers<L>, Stop>
-        requires stack_holds { self.depth ≤ length stack.old }
-        requires in_program { InProgram self.pc }
-        ensures { OnStack P.Policy.faithful policy.old policy.new stack.old stack.new self result (λ table setup. tried L.Label.kind table setup (Call count due)) }
+        ensures { OnStack P.Policy.faithful policy.old policy.new used.old used.new self result (λ table setup. tried L.Label.kind table setup (Call count due)) }
     {
-        let a = top_number(stack, self.depth)?;
+        let a = top_number(used)?;
+        let depth = used.len();
         let arguments = usize::from(count);
-        if !has_numbers(stack, self.depth - 1, arguments) {
+        if !has_numbers(&used[..depth - 1], arguments) {
             return Err(Stop::TooFewNumbers);
         }
-        let verdict = self.ask_one(policy, Opcode::Call, a.label)?;
+        let verdict = ask(
+            policy,
+            Request {
+                a: a.label,
+                ..self.request(Opcode::Call)
+            },
+        )?;
         let frame = Frame {
-            place: self.next_place(),
+            place: self.pc.next(),
             due,
             label: verdict.result,
         };
-        insert_under(stack, self.depth - 1, arguments, Entry::Frame(frame));
-        Ok(self.goto(i64::from(a.value), verdict.pc, self.depth))
+        insert_under(used, arguments, Entry::Frame(frame));
+        Ok(self.goto(i64::from(a.value), verdict.pc, depth))
     }
 
     pub fn return_to_frame<P: Policy<L>>(
         self,
-        stack: &mut [Entry<L>],
+        used: &mut [Entry<L>],
         policy: &mut P,
     ) -> Result<Registers<L>, Stop>
-        requires { self.depth ≤ length stack.old }
-        ensures { OnStack P.Policy.faithful policy.old policy.new stack.old stack.new self result (λ table setup. tried L.Label.kind table setup Return) }
+        ensures { OnStack P.Policy.faithful policy.old policy.new used.old used.new self result (λ table setup. tried L.Label.kind table setup Return) }
     {
         let Found {
             index,
             element: frame,
-        } = nearest_frame(stack, self.depth)?;
+        } = nearest_frame(used)?;
         if frame.due {
-            self.return_number(index, frame, stack, policy)
+            self.return_number(index, frame, used, policy)
         } else {
             self.return_nothing(index, frame, policy)
         }
@@ -284,16 +270,22 @@ impl<L: Label> Registers<L> {
         self,
         index: usize,
         frame: Frame<L>,
-        stack: &mut [Entry<L>],
+        used: &mut [Entry<L>],
         policy: &mut P,
     ) -> Result<Registers<L>, Stop>
-        requires stack_holds { self.depth ≤ length stack.old }
-        requires frame_in_use { index < self.depth }
-        ensures { OnStack P.Policy.faithful policy.old policy.new stack.old stack.new self result (λ table setup. return_to L.Label.kind table setup true frame (newest index stack.old)) }
+        requires { index < length used.old }
+        ensures { OnStack P.Policy.faithful policy.old policy.new used.old used.new self result (λ table setup. return_to L.Label.kind table setup true frame (newest index used.old)) }
     {
-        let a = top_number(stack, self.depth)?;
-        let verdict = self.ask_two(policy, Opcode::Return, frame.label, a.label)?;
-        put(stack, index, Entry::Number(relabelled(a, verdict.result)));
+        let a = top_number(used)?;
+        let verdict = ask(
+            policy,
+            Request {
+                a: frame.label,
+                b: a.label,
+                ..self.request(Opcode::Return)
+            },
+        )?;
+        used[index] = Entry::Number(relabelled(a, verdict.result));
         Ok(self.goto(frame.place, verdict.pc, index + 1))
     }
 
@@ -303,34 +295,42 @@ impl<L: Label> Registers<L> {
         frame: Frame<L>,
         policy: &mut P,
     ) -> Result<Registers<L>, Stop>
-        requires { index < self.depth }
-        ensures { (stack : List (EntryD L)) → self.depth ≤ length stack → OnStack P.Policy.faithful policy.old policy.new stack stack self result (λ table setup. return_to L.Label.kind table setup false frame (newest index stack)) }
+        ensures { (used : List (EntryD L)) → index < length used → OnStack P.Policy.faithful policy.old policy.new used used self result (λ table setup. return_to L.Label.kind table setup false frame (newest index used)) }
     {
-        let verdict = self.ask_one(policy, Opcode::Return, frame.label)?;
+        let verdict = ask(
+            policy,
+            Request {
+                a: frame.label,
+                ..self.request(Opcode::Return)
+            },
+        )?;
         Ok(self.goto(frame.place, verdict.pc, index))
     }
 
     pub fn output<P: Policy<L>>(
         self,
-        stack: &[Entry<L>],
+        used: &[Entry<L>],
         log: &mut [Labelled<L>],
         policy: &mut P,
     ) -> Result<Registers<L>, Stop>
-        requires stack_holds { self.depth ≤ length stack.now }
-        requires in_program { InProgram self.pc }
-        requires log_holds { self.commands ≤ length log.old }
-        ensures { (memory : List (LabelledD L)) → Does P.Policy.faithful policy.old policy.new memory memory stack.now stack.now log.old log.new self result (λ table setup. tried L.Label.kind table setup Output) }
+        ensures { (free : List (EntryD L)) (memory : List (LabelledD L)) → self.commands ≤ length log.old → Does P.Policy.faithful policy.old policy.new memory memory (used.now ++ free) (used.now ++ free) log.old log.new (starting self (length used.now)) result (λ table setup. tried L.Label.kind table setup Output) }
     {
-        let a = top_number(stack, self.depth)?;
+        let a = top_number(used)?;
         if self.commands >= log.len() {
             return Err(Stop::LogFull);
         }
-        let verdict = self.ask_one(policy, Opcode::Output, a.label)?;
-        put(log, self.commands, relabelled(a, verdict.result));
-        let logged = Registers {
+        let verdict = ask(
+            policy,
+            Request {
+                a: a.label,
+                ..self.request(Opcode::Output)
+            },
+        )?;
+        log[self.commands] = relabelled(a, verdict.result);
+        let logged = Fetched {
             commands: self.commands + 1,
             ..self
         };
-        Ok(logged.next(verdict.pc, self.depth - 1))
+        Ok(logged.next(verdict.pc, used.len() - 1))
     }
 }

@@ -1,79 +1,78 @@
 // One step: what the operation at the program counter comes to.
-ghost use Rattle.std.specs.Prelude.{◌≡◌, ℕ, ◌<◌, ◌≤◌, false, length};
-ghost use Rattle.machine.specs.Steps.{halts as is_halt, halted as halted_at, tried as tried_by};
-ghost use Rattle.steps.specs.Operations.{InProgram, Does};
-ghost use Rattle.steps.specs.Steps.{Halts, Steps};
+ghost use Rattle.std.specs.Prelude.{◌≡◌, ℕ, ◌<◌, ◌≤◌, length};
+ghost use Rattle.steps.specs.Places.{InProgram};
+ghost use Rattle.steps.specs.Steps.{Attempted, Halts, Steps};
 
 use crate::arithmetic::Arithmetic;
-use crate::registers::Registers;
-use crate::walks::{Found, find};
+use crate::place::Place;
+use crate::registers::{Fetched, Registers};
+use crate::walks::find;
 use labels::Label;
 use machine::{Entry, Labelled, Operation, Stop};
 use rules::Policy;
 
-// What a step comes to: the round is finished, it runs on later for want of fuel, it is stopped, or an operation was done, with
-// the registers after it.
-#[derive(Clone, Copy)]
+// What a step comes to where it is not stopped: the round is finished, it runs on later for want of fuel, or an operation was
+// done, with the registers after it.
+#[derive(Clone, Copy, Debug, PartialEq, Eq)]
 pub enum Outcome<L> {
     Finished,
     Later,
-    Stopped(Stop),
     Done(Registers<L>),
-}
-
-// Whether the operation is a halt.
-fn halts<L: Copy>(op: Operation<L>) -> bool
-    ensures { result ≡ is_halt op }
-{
-    match op {
-        Operation::Halt => true,
-        _ => false,
-    }
 }
 
 impl<L: Label> Registers<L> {
     // At halt the round is finished if the label of the program counter is bottom.
-    fn halted(self) -> Outcome<L>
+    fn halted(self) -> Result<Outcome<L>, Stop>
         ensures { Halts L.Label.kind self result }
     {
         if self.pc_label.flows_to(L::bottom()) {
-            Outcome::Finished
+            Ok(Outcome::Finished)
         } else {
-            Outcome::Stopped(Stop::HaltAboveBottom)
+            Err(Stop::HaltAboveBottom)
         }
     }
 
-    // Tries an operation that is no halt.
-    fn tried<P: Policy<L>>(
+    // What an operation comes to: a halt with or without fuel, any other with fuel only.
+    fn attempt<P: Policy<L>>(
         self,
         op: Operation<L>,
         memory: &mut [Labelled<L>],
         stack: &mut [Entry<L>],
         log: &mut [Labelled<L>],
         policy: &mut P,
-    ) -> Result<Registers<L>, Stop>
-        requires no_halt { is_halt op ≡ false }
+        fuel: u32,
+    ) -> Result<Outcome<L>, Stop>
         requires in_program { InProgram self.pc }
         requires stack_holds { self.depth ≤ length stack.old }
         requires log_holds { self.commands ≤ length log.old }
-        ensures { Does P.Policy.faithful policy.old policy.new memory.old memory.new stack.old stack.new log.old log.new self result (λ table setup. tried_by L.Label.kind table setup op) }
+        ensures { Attempted L.Label.kind P.Policy.faithful policy.old policy.new op memory.old memory.new stack.old stack.new log.old log.new fuel self result }
     {
-        match op {
-            Operation::Push(number) => self.push(number, stack, policy),
-            Operation::Pop => self.pop(stack, policy),
-            Operation::Noop => self.noop(policy),
-            Operation::Add => self.arithmetic(Arithmetic::Add, stack, policy),
-            Operation::Sub => self.arithmetic(Arithmetic::Sub, stack, policy),
-            Operation::Less => self.arithmetic(Arithmetic::Less, stack, policy),
-            Operation::Load => self.load(memory, stack, policy),
-            Operation::Store => self.store(memory, stack, policy),
-            Operation::Jump => self.jump(stack, policy),
-            Operation::Bnz(by) => self.bnz(by, stack, policy),
-            Operation::Call { count, due } => self.call(count, due, stack, policy),
-            Operation::Return => self.return_to_frame(stack, policy),
-            Operation::Output => self.output(stack, log, policy),
-            Operation::Halt => unreachable(),
+        if fuel == 0 && !matches!(op, Operation::Halt) {
+            return Ok(Outcome::Later);
         }
+        let fetched = Fetched {
+            pc: Place { number: self.pc },
+            pc_label: self.pc_label,
+            commands: self.commands,
+        };
+        let (used, free) = stack.split_at_mut(self.depth);
+        let done = match op {
+            Operation::Halt => return self.halted(),
+            Operation::Push(number) => fetched.push(number, used, free, policy),
+            Operation::Pop => fetched.pop(used, policy),
+            Operation::Noop => fetched.noop(used, policy),
+            Operation::Add => fetched.arithmetic(Arithmetic::Add, used, policy),
+            Operation::Sub => fetched.arithmetic(Arithmetic::Sub, used, policy),
+            Operation::Less => fetched.arithmetic(Arithmetic::Less, used, policy),
+            Operation::Load => fetched.load(memory, used, policy),
+            Operation::Store => fetched.store(memory, used, policy),
+            Operation::Jump => fetched.jump(used, policy),
+            Operation::Bnz(by) => fetched.bnz(by, used, policy),
+            Operation::Call { count, due } => fetched.call(count, due, used, policy),
+            Operation::Return => fetched.return_to_frame(used, policy),
+            Operation::Output => fetched.output(used, log, policy),
+        };
+        done.map(Outcome::Done)
     }
 
     // One step with so much fuel left.
@@ -85,25 +84,13 @@ impl<L: Label> Registers<L> {
         log: &mut [Labelled<L>],
         policy: &mut P,
         fuel: u32,
-    ) -> Outcome<L>
+    ) -> Result<Outcome<L>, Stop>
         requires program_fits { length program.now ≤ 4096 }
         requires stack_holds { self.depth ≤ length stack.old }
         requires log_holds { self.commands ≤ length log.old }
         ensures { Steps L.Label.kind P.Policy.faithful policy.old policy.new program.now memory.old memory.new stack.old stack.new log.old log.new fuel self result }
     {
-        let Some(found) = find(program, self.pc) else {
-            return Outcome::Stopped(Stop::OutsideProgram);
-        };
-        let op = found.element;
-        if halts(op) {
-            return self.halted();
-        }
-        if fuel == 0 {
-            return Outcome::Later;
-        }
-        match self.tried(op, memory, stack, log, policy) {
-            Ok(after) => Outcome::Done(after),
-            Err(stop) => Outcome::Stopped(stop),
-        }
+        let found = find(program, self.pc).ok_or(Stop::OutsideProgram)?;
+        self.attempt(found.element, memory, stack, log, policy, fuel)
     }
 }

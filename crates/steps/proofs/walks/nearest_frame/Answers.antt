@@ -1,24 +1,42 @@
-use Rattle.std.proofs.Common.{◌≡◌, ◌-◌, ◌∷◌, ap, ◌∙◌, arith}
+use Rattle.std.proofs.Common.{◌≡◌, ◌∷◌, length, sym, ap, ◌∙◌, take_all, arith}
 use Rattle.machine.specs.Steps.{nearest_frame}
 use Rattle.steps.specs.Walks.{newest}
-use Rattle.steps.proofs.Stacks.{newest_read}
+use Rattle.steps.proofs.Stacks.{walks}
 use Rattle.steps.proofs.walks.nearest_frame.Goals as goal
+
+pub loop-index-init : goal.loop-index-init
+loop-index-init g c =
+    let whole : c.into_iter-index-iterator.result.iter.iter.rest.now ≡ c.args.used.now = cc in
+    record {
+      counted = cc;
+      rest_is = whole ∙ sym (take_all _ c.args.used.now (omega (arith, ap length whole)));
+      same = λ then. ap (λ n. nearest_frame (newest n c.args.used.now) then) (ap length (sym whole));
+    }
+
+pub loop-index-preserved : goal.loop-index-preserved
+loop-index-preserved g c =
+    let used = c.args.used.now in
+    let step = c.in-Some.ensures.steps in
+    let rest = c.loop-index.index-iterator.iter.iter.rest.now in
+    let left = c.next.new.self.iter.iter.rest.now in
+    let at = walks used rest left c.in-Some.entry.now c.loop-index.invariant.rest_is step.1.0 in
+    record {
+      counted = step.0 ∙ c.loop-index.invariant.counted;
+      rest_is = at.left_is;
+      same = λ then. c.loop-index.invariant.same then ∙ ap (λ s. nearest_frame s then) (at.from_rest ∙ ap (λ e. e ∷ newest (length left) used) c.in_default.is);
+    }
 
 pub returns-in-Frame : goal.returns-in-Frame
 returns-in-Frame g c =
-    let i = c.loop-index.index - 1 in
-    let top = newest_read c.args.stack.now c.loop-index.index i c.index-stack-index.result (omega arith) (omega arith) c.index-stack-index.is in (
-      omega arith,
-      λ then. c.loop-index.invariant then ∙ ap (λ s. nearest_frame s then) (top ∙ ap (λ e. e ∷ newest i c.args.stack.now) c.in-Frame.is),
+    let used = c.args.used.now in
+    let step = c.in-Some.ensures.steps in
+    let rest = c.loop-index.index-iterator.iter.iter.rest.now in
+    let left = c.next.new.self.iter.iter.rest.now in
+    let at = walks used rest left c.in-Some.entry.now c.loop-index.invariant.rest_is step.1.0 in
+    let index : c.in-Some.index ≡ length left = omega (arith, step.1.1, c.loop-index.invariant.counted) in (
+      omega (arith, at.inside),
+      λ then. c.loop-index.invariant.same then ∙ ap (λ s. nearest_frame s then) (at.from_rest ∙ ap (λ e. e ∷ newest (length left) used) c.in-Frame.is) ∙ ap (λ n. then c.in-Frame.element (newest n used)) (sym index),
     )
 
-pub loop-index-preserved : goal.loop-index-preserved
-loop-index-preserved g c then =
-    let i = c.loop-index.index - 1 in
-    let top = newest_read c.args.stack.now c.loop-index.index i c.index-stack-index.result (omega arith) (omega arith) c.index-stack-index.is in
-    c.loop-index.invariant then ∙ ap (λ s. nearest_frame s then) (top ∙ ap (λ e. e ∷ newest i c.args.stack.now) c.in_default.is)
-
 pub returns : goal.returns
-returns g c then =
-    let none : c.loop-index.index ≡ 0 = omega arith in
-    c.loop-index.invariant then ∙ ap (λ n. nearest_frame (newest n c.args.stack.now) then) none
+returns g c then = c.loop-index.invariant.same then ∙ ap (λ n. nearest_frame (newest n c.args.used.now) then) c.in-None.ensures.steps.1.0

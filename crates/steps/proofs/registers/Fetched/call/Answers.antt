@@ -1,0 +1,69 @@
+use Rattle.std.proofs.Common.{◌≡◌, ◌-◌, ◌<◌, ◌≤◌, ◌∷◌, ◌++◌, length, take, drop, ℤ, pos, ◌+ℤ◌, sym, ap, ◌∙◌, arith, Ok, Err, w32, w64, SFits, to_z, of_z, rules}
+use Rattle.steps.proofs.Doing.{asked, used_stops, used_hands_on, used_does, done_stack, done_place}
+use Rattle.steps.proofs.Stacks.{newest_first, length_newest}
+use Rattle.steps.specs.Walks.{newest, numbers_on_top}
+use Rattle.machine.specs.declared.parts.Entry.{Entry}
+use Rattle.machine.specs.declared.parts.Entry.TheVariants.{Frame}
+use Rattle.std.proofs.lemmas.Int.{ints, to_z-of_z}
+use Rattle.steps.proofs.Arguments.{takes_all, takes_too_many, taken_onto, numbers_within}
+use Rattle.std.proofs.lemmas.Bool.{leb-true, leb-false}
+use Rattle.steps.proofs.registers.Fetched.call.Goals as goal
+
+pub returns-in_err-a : goal.returns-in_err-a
+returns-in_err-a g c free memory log room =
+    used_hands_on c.args.self c.args.used.now free c.from_residual.ensures.1 (λ table true. true) (λ table true setup _. c.in_err-a.ensures _)
+
+pub returns-then-not-has_numbers : goal.returns-then-not-has_numbers
+returns-then-not-has_numbers g c free memory log room =
+    let used = c.args.used.now in
+    let n = length used in
+    let below = newest (n - 1) used in
+    let counted = leb-false c.from-arguments.result _ (sym c.if-not-has_numbers.ensures) in
+    let few : numbers_on_top below < c.args.count = omega (arith, ap numbers_on_top (newest_first used (n - 1) (omega arith))) in
+    used_stops c.args.self used free (λ table true. true)
+    (λ table true setup _. c.in_ok-a.ensures.1 _ ∙ takes_too_many c.args.count below _ few)
+
+pub returns-in_err-verdict : goal.returns-in_err-verdict
+returns-in_err-verdict g c free memory log room =
+    let used = c.args.used.now in
+    let n = length used in
+    let below = newest (n - 1) used in
+    let counted = leb-true c.from-arguments.result _ (sym c.if-not-has_numbers.ensures) in
+    let enough : c.args.count ≤ numbers_on_top below = omega (arith, ap numbers_on_top (newest_first used (n - 1) (omega arith))) in
+    let asks = asked (λ q. record q { a = c.in_ok-a.a.label }) (Err c.in_err-verdict.field-0.0) c.request.ensures c.in_err-verdict.ensures in
+    used_hands_on c.args.self used free c.from_residual-in_err-verdict.ensures.1 asks.still
+    (λ table true setup _. c.in_ok-a.ensures.1 _ ∙ takes_all c.args.count below _ enough ∙ asks.holds table true _)
+
+pub insert_under-requires : goal.insert_under-requires
+insert_under-requires g c =
+    let a = c.in_ok-a.ensures in
+    let used = c.args.used.now in
+    let n = length used in
+    let below = newest (n - 1) used in
+    let counted = leb-true c.from-arguments.result _ (sym c.if-not-has_numbers.ensures) in
+    let enough : c.args.count ≤ numbers_on_top below = omega (arith, ap numbers_on_top (newest_first used (n - 1) (omega arith))) in
+    omega (arith, a.0, numbers_within below, length_newest (n - 1) used (omega arith))
+
+pub returns : goal.returns
+returns g c free memory log room =
+    let a = c.in_ok-a.ensures in
+    let used = c.args.used.now in
+    let n = length used in
+    let below = newest (n - 1) used in
+    let counted = leb-true c.from-arguments.result _ (sym c.if-not-has_numbers.ensures) in
+    let enough : c.args.count ≤ numbers_on_top below = omega (arith, ap numbers_on_top (newest_first used (n - 1) (omega arith))) in
+    let asks = asked (λ q. record q { a = c.in_ok-a.a.label }) (Ok c.in_ok-verdict.verdict) c.request.ensures c.in_ok-verdict.ensures in
+    let fits : SFits w32 c.in_ok-a.a.value = search rules in
+    let place : to_z w64 (of_z w64 c.from.result) ≡ c.in_ok-a.a.value = omega (arith, ints) in
+    let fits_next : SFits w64 c.next.result = search rules in
+    let next = to_z-of_z w64 c.next.result fits_next ∙ c.next.ensures in
+    let frame : ℤ → Entry g.row.L.Denot = λ place. Frame (record { place = place; due = c.args.due; label = c.in_ok-verdict.verdict.result }) in
+    let inserted =
+    c.insert_under.ensures
+    ∙ ap (λ n. take n below ++ frame (to_z w64 (of_z w64 c.next.result)) ∷ drop n below) c.from-arguments.ensures
+    ∙ ap (λ place. take c.args.count below ++ frame place ∷ drop c.args.count below) next
+    ∙ taken_onto c.args.count below (frame (c.args.self.pc.number +ℤ pos 1)) enough in
+    used_does c.args.self used free _ c.goto.ensures asks.still (omega arith) (omega arith) room
+    (λ table true setup _.
+    done_place place ∙ done_stack inserted
+    ∙ sym (a.1 _ ∙ takes_all c.args.count below _ enough ∙ asks.holds table true _))

@@ -1,0 +1,56 @@
+use Rattle.std.proofs.Common.{◌≡◌, true, false, ◌<◌, length, refl, sym, ap, ◌∙◌, arith, rules, w32, w64, SFits, to_z, of_z}
+use Rattle.std.proofs.lemmas.Int.{to_z-of_z}
+use Rattle.machine.specs.Steps.{tried, halts}
+use Rattle.machine.specs.declared.parts.Operation.TheVariants.{Bnz}
+use Rattle.steps.specs.Operations.{registers, Does}
+use Rattle.steps.proofs.Stepping.{attempted_halt, attempted_later, attempted, mapped, found_as}
+use Rattle.steps.proofs.registers.Registers.attempt.Goals as goal
+use Rattle.steps.proofs.registers.Registers.attempt.Goals.{in-Push, in-Pop, in-Noop, in-Add, in-Sub, in-Less, in-Load, in-Store, in-Jump, in-Bnz, in-Call, in-Return, in-Output, else-fuel-eq0-via-then-fuel-eq0+else-not-matches, else-fuel-eq0-via-else-fuel-eq0, in-Halt, in_default}
+
+pub returns-in-Halt-op : goal.returns-in-Halt-op
+returns-in-Halt-op g c = attempted_halt g.L.Label.kind _ c.halted.result c.in-Halt-op.is (sym c.split_at_mut-used.ensures.value) c.halted.ensures
+
+pub returns-then-not-matches : goal.returns-then-not-matches
+returns-then-not-matches g c = attempted_later g.L.Label.kind _ (grind arith) (omega arith) refl
+
+pub returns : goal.returns
+returns g c =
+    let kind = g.L.Label.kind in
+    let used = c.split_at_mut-used.result.0.now in
+    let free = c.split_at_mut-used.result.1.now in
+    let memory = c.args.memory.now in
+    let log = c.args.log.now in
+    let room = c.requires.log_holds in
+    let split = c.split_at_mut-used.ensures.value in
+    let fits : SFits w64 c.args.self.pc = search rules in
+    let before : c.args.self ≡ registers (to_z w64 (of_z w64 c.args.self.pc)) c.args.self.pc_label (length used) c.args.self.commands =
+    ap (λ pc. registers pc c.args.self.pc_label c.args.self.depth c.args.self.commands) (sym (to_z-of_z w64 c.args.self.pc fits))
+    ∙ ap (λ depth. registers (to_z w64 (of_z w64 c.args.self.pc)) c.args.self.pc_label depth c.args.self.commands) (sym c.split_at_mut-used.ensures.front_len) in
+    let m = c.match-op in
+    let did : (halts c.args.op ≡ false) × Does g.P.Policy.faithful c.args.policy.now m.policy memory m.memory c.args.stack.now m.stack log m.log c.args.self m.done (λ table setup. tried kind table setup c.args.op) =
+    elim m.branch [
+      | in-Push w ↦ (ap halts w.in-Push.is, found_as kind w.in-Push.is split before w.policy-is w.memory-is w.stack-is w.log-is w.done-is (w.push-done.ensures memory log room))
+      | in-Pop w ↦ (ap halts w.in-Pop.is, found_as kind w.in-Pop.is split before w.policy-is w.memory-is w.stack-is w.log-is w.done-is (w.pop-done.ensures free memory log room))
+      | in-Noop w ↦ (ap halts w.in-Noop.is, found_as kind w.in-Noop.is split before w.policy-is w.memory-is w.stack-is w.log-is w.done-is (w.noop-done.ensures free memory log room))
+      | in-Add w ↦ (ap halts w.in-Add.is, found_as kind w.in-Add.is split before w.policy-is w.memory-is w.stack-is w.log-is w.done-is (w.arithmetic-done.ensures free memory log room))
+      | in-Sub w ↦ (ap halts w.in-Sub.is, found_as kind w.in-Sub.is split before w.policy-is w.memory-is w.stack-is w.log-is w.done-is (w.arithmetic-done-in-Sub.ensures free memory log room))
+      | in-Less w ↦ (ap halts w.in-Less.is, found_as kind w.in-Less.is split before w.policy-is w.memory-is w.stack-is w.log-is w.done-is (w.arithmetic-done-in-Less.ensures free memory log room))
+      | in-Load w ↦ (ap halts w.in-Load.is, found_as kind w.in-Load.is split before w.policy-is w.memory-is w.stack-is w.log-is w.done-is (w.load-done.ensures free log room))
+      | in-Store w ↦ (ap halts w.in-Store.is, found_as kind w.in-Store.is split before w.policy-is w.memory-is w.stack-is w.log-is w.done-is (w.store-done.ensures free log room))
+      | in-Jump w ↦ (ap halts w.in-Jump.is, found_as kind w.in-Jump.is split before w.policy-is w.memory-is w.stack-is w.log-is w.done-is (w.jump-done.ensures free memory log room))
+      | in-Bnz w ↦
+          let fits : SFits w32 w.in-Bnz.by = search rules in
+          (ap halts w.in-Bnz.is, found_as kind (w.in-Bnz.is ∙ ap Bnz (sym (to_z-of_z w32 w.in-Bnz.by fits))) split before w.policy-is w.memory-is w.stack-is w.log-is w.done-is (w.bnz-done.ensures free memory log room))
+      | in-Call w ↦ (ap halts w.in-Call.is, found_as kind w.in-Call.is split before w.policy-is w.memory-is w.stack-is w.log-is w.done-is (w.call-done.ensures free memory log room))
+      | in-Return w ↦ (ap halts w.in-Return.is, found_as kind w.in-Return.is split before w.policy-is w.memory-is w.stack-is w.log-is w.done-is (w.return_to_frame-done.ensures free memory log room))
+      | in-Output w ↦ (ap halts w.in-Output.is, found_as kind w.in-Output.is split before w.policy-is w.memory-is w.stack-is w.log-is w.done-is (w.output-done.ensures free memory room))
+    ] in
+    let fuelled : 0 < c.args.fuel =
+    elim c.else-fuel-eq0.branch [
+      | else-fuel-eq0-via-then-fuel-eq0+else-not-matches w ↦ elim w.match-matches.branch [
+        | in-Halt v ↦ (let both : false ≡ true = sym did.0 ∙ ap halts v.in-Halt.is in let no : ⊥ = cc in absurd no)
+        | in_default v ↦ (let both : false ≡ true = sym v.matches-is ∙ w.if-not-matches.false in let no : ⊥ = cc in absurd no)
+      ]
+      | else-fuel-eq0-via-else-fuel-eq0 w ↦ omega arith
+    ] in
+    rw (mapped m.done c.map.result c.map.ensures.cases) (attempted kind m.done did.0 fuelled did.1)
