@@ -2,15 +2,13 @@
 use Rattle.std.proofs.Common.{◌≡◌, ℕ, ◌<◌, ◌≤◌, ltb, List, ◌++◌, length, arith, length-append, ℤ, IsErrAnd, Ok, Err, Result, sym, refl, ap, ◌∙◌, subst}
 use Rattle.std.proofs.lemmas.Result.{err_from_is_err_and}
 use Rattle.std.proofs.lemmas.Bool.{lt-ltb, le-ltb}
-use Rattle.labels.specs.Kind.{Kind}
 use Rattle.rules.specs.Tables.{Table}
 use Rattle.rules.specs.declared.Request.{Request}
 use Rattle.rules.specs.declared.Verdict.{Verdict}
-use Rattle.machine.specs.Steps.{Setup, Round, Outcome, stopped, done, provided, tried}
+use Rattle.machine.specs.Steps.{Setup, Round, Outcome, stopped, done, provided}
 use Rattle.machine.specs.declared.answers.Stop.{Stop}
 use Rattle.machine.specs.declared.parts.Entry.{Entry}
 use Rattle.machine.specs.declared.parts.Labelled.{Labelled}
-use Rattle.machine.specs.declared.parts.Operation.{Operation}
 use Rattle.steps.specs.Operations.{registers, starting, round, Rules, Under, Does}
 use Rattle.steps.specs.declared.registers.Registers.{Registers}
 use Rattle.steps.specs.declared.registers.Fetched.{Fetched}
@@ -140,11 +138,3 @@ module _ {L : Type 0} where
     used_defined_as {memory'} {log'} used' {r} {defined'} same did =
         let before = before_is start used free memory log in
         defined_as (λ table setup. ap (defined table setup) before ∙ same table setup ∙ sym (ap (defined' table setup) before)) did
-
-  -- an operation that was found to be another
-  pub tried_as : (kind : Kind L) {P : Type 0} {faithful : P → Table L → Type 0} {policy policy' : P} {stack stack' : List (Entry L)} {memory memory' log log' : List (Labelled L)} {before : Registers L} {r : Result (Registers L) Stop} {op op' : Operation L}
-      → op ≡ op'
-      → Does faithful policy policy' memory memory' stack stack' log log' before r (λ table setup. tried kind table setup op')
-      → Does faithful policy policy' memory memory' stack stack' log log' before r (λ table setup. tried kind table setup op)
-  tried_as kind {P} {faithful} {policy} {policy'} {stack} {stack'} {memory} {memory'} {log} {log'} {before} {r} {op} {op'} is did =
-      defined_as (λ table setup. ap (λ o. tried kind table setup o (round before memory stack log)) is) did

@@ -2,15 +2,11 @@
 use Rattle.std.proofs.Common.{◌≡◌, ℕ, ◌+◌, ◌<◌, ◌≤◌, List, [], ◌∷◌, ◌++◌, reverse, length, get_or, take, drop, set, sym, ap, ◌∙◌, arith}
 use mathlib.Core.List.{reverse-cons}
 use lib.Seq.{paste}
-use Rattle.std.proofs.lemmas.List.{append_assoc, length-append, length-reverse, length-take-le, length-drop, take-append-drop, take-take, drop-take, take_more, take_at, drop_at, set_at, reverse-append}
+use Rattle.std.proofs.Math.Seq.{take-add}
+use Rattle.std.proofs.lemmas.List.{append_assoc, length-append, length-reverse, length-take-le, length-drop, take_more, take_at, drop_at, set_at, reverse-append}
 use Rattle.steps.specs.Walks.{newest}
 
 module _ {X : Type 0} where
-  take_two : (p k : ℕ) (xs : List X) → take (p + k) xs ≡ take p xs ++ take k (drop p xs)
-  take_two p k xs =
-      let le : p ≤ p + k = omega arith in
-      sym (take-append-drop p (take (p + k) xs)) ∙ ap (λ u. u ++ drop p (take (p + k) xs)) (take-take p (p + k) xs le) ∙ ap (λ v. take p xs ++ v) (drop-take p k xs)
-
   turned : (u v : List X) (x : X) → reverse (u ++ x ∷ v) ≡ reverse v ++ x ∷ reverse u
   turned u v x = reverse-append u (x ∷ v) ∙ ap (λ w. w ++ reverse u) (reverse-cons x v) ∙ append_assoc (reverse v) (x ∷ []) (reverse u)
 
@@ -31,7 +27,7 @@ module _ {X : Type 0} where
       let le : length (u ++ x ∷ v) ≡ p + k + 1 = omega (arith, length-append u (x ∷ v)) in
       let three : newest (p + k + 1) (set (paste xs (p + 1) (drop p xs) k) p x) ≡ reverse v ++ x ∷ reverse u =
       ap (λ q. reverse (take (p + k + 1) q)) two ∙ ap reverse (take_at (u ++ x ∷ v) w (p + k + 1) le) ∙ turned u v x in
-      let four : newest (p + k) xs ≡ reverse v ++ reverse u = ap reverse (take_two p k xs) ∙ reverse-append u v in
+      let four : newest (p + k) xs ≡ reverse v ++ reverse u = ap reverse (take-add p k xs) ∙ reverse-append u v in
       let lr : length (reverse v) ≡ k = length-reverse v ∙ lv in
       let five : take k (newest (p + k) xs) ≡ reverse v = ap (take k) four ∙ take_at (reverse v) (reverse u) k lr in
       let six : drop k (newest (p + k) xs) ≡ reverse u = ap (drop k) four ∙ drop_at (reverse v) (reverse u) k lr in

@@ -2,29 +2,15 @@
 use Rattle.std.specs.Prelude.{◌≡◌, ℕ, ◌≤◌, List, ◌++◌, length, take, ℤ, Ok, Err, Option, Result}
 use Rattle.rules.specs.Tables.{Table}
 use Rattle.rules.specs.declared.Opcode.{Opcode}
-use Rattle.rules.specs.declared.Opcode.TheVariants as opcode
 use Rattle.rules.specs.declared.Request.{Request}
 use Rattle.rules.specs.declared.Verdict.{Verdict}
-use Rattle.machine.specs.Steps.{Setup, Round, Outcome, stopped, done, ◌at◌, ruled, sum, difference, is_less}
+use Rattle.machine.specs.Steps.{Setup, Round, Outcome, stopped, done, ◌at◌, ruled}
 use Rattle.machine.specs.declared.answers.Stop.{Stop}
 use Rattle.machine.specs.declared.parts.Labelled.{Labelled}
 use Rattle.machine.specs.declared.parts.Entry.{Entry}
 use Rattle.steps.specs.Walks.{newest}
-use Rattle.steps.specs.declared.arithmetic.Arithmetic.{Arithmetic}
-use Rattle.steps.specs.declared.arithmetic.Arithmetic.TheVariants.{Add, Sub, Less}
 use Rattle.steps.specs.declared.registers.Registers.{Registers}
 use Rattle.steps.specs.declared.registers.Fetched.{Fetched}
-
--- What two numbers give, b beneath a, and under which name the policy is asked about it.
-abbrev pub applied : Arithmetic → ℤ → ℤ → ℤ
-applied Add = sum
-applied Sub = difference
-applied Less = is_less
-
-abbrev pub opcode_of : Arithmetic → Opcode
-opcode_of Add = opcode.Add
-opcode_of Sub = opcode.Sub
-opcode_of Less = opcode.Less
 
 module _ {L : Type 0} where
   abbrev pub labelled : ℤ → L → Labelled L

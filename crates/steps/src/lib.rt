@@ -1,7 +1,6 @@
 // One step of a running station: the registers, the walks over the lent parts, and the operations.
 #![tactic(auto)]
 
-mod arithmetic;
 mod operations;
 mod place;
 mod registers;

@@ -1,13 +1,15 @@
-// The operations, each over the entries in use and the parts that it reaches. An operation gives the registers after it, or the stop.
-ghost use Rattle.std.specs.Prelude.{◌≡◌, ◌+◌, ◌^◌, ◌<◌, ◌≤◌, ◌++◌, true, false, List, length, pos, ◌+ℤ◌};
+// The operations. An operation gives the registers after it, or the stop. Each is lent just the parts that it reaches, and of the
+// stack the entries in use as a slice of their own: there is no depth to require anything of, and nothing that a struct of all
+// parts would keep; it would lend each operation more than it reaches.
+ghost use Rattle.std.specs.Prelude.{◌≡◌, ◌+◌, ◌^◌, ◌<◌, ◌≤◌, ◌++◌, true, false, List, length, ℤ, pos, ◌+ℤ◌, FitsSigned};
+ghost use Rattle.std.specs.Int.{w32};
 ghost use Rattle.machine.specs.Steps.{tried, arithmetic as arithmetic_on, return_to};
 ghost use Rattle.machine.specs.declared.parts.Entry.{Entry as EntryD};
 ghost use Rattle.machine.specs.declared.parts.Labelled.{Labelled as LabelledD};
 ghost use Rattle.machine.specs.declared.parts.Operation.TheVariants.{Push, Pop, Noop, Load, Store, Jump, Bnz, Call, Return, Output};
-ghost use Rattle.steps.specs.Operations.{applied, labelled as labelled_with, opcode_of, registers as registers_of, starting, request as request_of, Rules, Under, Does, OnStack, OnMemory};
+ghost use Rattle.steps.specs.Operations.{labelled as labelled_with, registers as registers_of, starting, request as request_of, Rules, Under, Does, OnStack, OnMemory};
 ghost use Rattle.steps.specs.Walks.{newest};
 
-use crate::arithmetic::Arithmetic;
 use crate::registers::{Fetched, Registers};
 use crate::walks::{Found, find_cell, has_numbers, insert_under, nearest_frame, top_number};
 use labels::Label;
@@ -107,13 +109,16 @@ impl<L: Label> Fetched<L> {
         Ok(self.next(verdict.pc, used.len()))
     }
 
-    pub fn arithmetic<P: Policy<L>>(
+    // An operation that makes one number of two by a rule, which is given the lower one first.
+    pub fn arithmetic<P: Policy<L>, F: FnOnce(i32, i32) -> i32>(
         self,
-        op: Arithmetic,
+        op: Opcode,
+        rule: F,
         used: &mut [Entry<L>],
         policy: &mut P,
     ) -> Result<Registers<L>, Stop>
-        ensures { OnStack P.Policy.faithful policy.old policy.new used.old used.new self result (λ table setup. arithmetic_on L.Label.kind table setup (opcode_of op) (applied op)) }
+        requires { F.IsAlwaysCallable rule }
+        ensures { (applied : ℤ → ℤ → ℤ) → ((b a r : ℤ) → FitsSigned w32 b → FitsSigned w32 a → F.post rule b a r → r ≡ applied b a) → OnStack P.Policy.faithful policy.old policy.new used.old used.new self result (λ table setup. arithmetic_on L.Label.kind table setup op applied) }
     {
         let a = top_number(used)?;
         let depth = used.len() - 1;
@@ -123,11 +128,11 @@ impl<L: Label> Fetched<L> {
             Request {
                 a: a.label,
                 b: b.label,
-                ..self.request(op.into())
+                ..self.request(op)
             },
         )?;
         used[depth - 1] = Entry::Number(Labelled {
-            value: op.apply(b.value, a.value),
+            value: rule(b.value, a.value),
             label: verdict.result,
         });
         Ok(self.next(verdict.pc, depth))
@@ -307,6 +312,7 @@ impl<L: Label> Fetched<L> {
         Ok(self.goto(frame.place, verdict.pc, index))
     }
 
+    // The log is lent whole, with how many of its commands are in use, since it has a fixed length.
     pub fn output<P: Policy<L>>(
         self,
         used: &[Entry<L>],

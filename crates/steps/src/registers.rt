@@ -1,7 +1,8 @@
 // What a running station has besides its parts, and what an operation starts from.
 use crate::place::Place;
 
-// The place and label of the program counter, how many entries of the stack and how many commands of the log are in use.
+// The place and label of the program counter, how many entries of the stack and how many commands of the log are in use. The
+// stack and the log are lent slices of fixed length that no station holds, so what is in use of them is counted here.
 #[derive(Clone, Copy, Debug, PartialEq, Eq)]
 pub struct Registers<L> {
     pub pc: i64,

@@ -3,13 +3,12 @@ ghost use Rattle.std.specs.Prelude.{◌≡◌, ℕ, ◌<◌, ◌≤◌, length};
 ghost use Rattle.steps.specs.Places.{InProgram};
 ghost use Rattle.steps.specs.Steps.{Attempted, Halts, Steps};
 
-use crate::arithmetic::Arithmetic;
 use crate::place::Place;
 use crate::registers::{Fetched, Registers};
 use crate::walks::find;
 use labels::Label;
 use machine::{Entry, Labelled, Operation, Stop};
-use rules::Policy;
+use rules::{Opcode, Policy};
 
 // What a step comes to where it is not stopped: the round is finished, it runs on later for want of fuel, or an operation was
 // done, with the registers after it.
@@ -56,14 +55,21 @@ impl<L: Label> Registers<L> {
             commands: self.commands,
         };
         let (used, free) = stack.split_at_mut(self.depth);
+        // The rules are closures, since a proof knows nothing of what `i32::wrapping_add` gives when it is passed by that name.
         let done = match op {
             Operation::Halt => return self.halted(),
             Operation::Push(number) => fetched.push(number, used, free, policy),
             Operation::Pop => fetched.pop(used, policy),
             Operation::Noop => fetched.noop(used, policy),
-            Operation::Add => fetched.arithmetic(Arithmetic::Add, used, policy),
-            Operation::Sub => fetched.arithmetic(Arithmetic::Sub, used, policy),
-            Operation::Less => fetched.arithmetic(Arithmetic::Less, used, policy),
+            Operation::Add => {
+                fetched.arithmetic(Opcode::Add, |b, a| b.wrapping_add(a), used, policy)
+            }
+            Operation::Sub => {
+                fetched.arithmetic(Opcode::Sub, |b, a| b.wrapping_sub(a), used, policy)
+            }
+            Operation::Less => {
+                fetched.arithmetic(Opcode::Less, |b, a| i32::from(b < a), used, policy)
+            }
             Operation::Load => fetched.load(memory, used, policy),
             Operation::Store => fetched.store(memory, used, policy),
             Operation::Jump => fetched.jump(used, policy),
@@ -75,7 +81,8 @@ impl<L: Label> Registers<L> {
         done.map(Outcome::Done)
     }
 
-    // One step with so much fuel left.
+    // One step with so much fuel left. A station holds none of its four parts: program, memory, stack and log are lent to each
+    // step, so they are parameters.
     pub fn step<P: Policy<L>>(
         self,
         program: &[Operation<L>],

@@ -1,17 +1,8 @@
-use Rattle.std.proofs.Common.{◌≡◌, ◌∷◌, length, sym, ap, ◌∙◌, take_all, arith}
+use Rattle.std.proofs.Common.{◌≡◌, ◌∷◌, length, sym, ap, ◌∙◌, arith}
 use Rattle.machine.specs.Steps.{nearest_frame}
 use Rattle.steps.specs.Walks.{newest}
 use Rattle.steps.proofs.Stacks.{walks}
 use Rattle.steps.proofs.walks.nearest_frame.Goals as goal
-
-pub loop-index-init : goal.loop-index-init
-loop-index-init g c =
-    let whole : c.into_iter-index-iterator.result.iter.iter.rest.now ≡ c.args.used.now = cc in
-    record {
-      counted = cc;
-      rest_is = whole ∙ sym (take_all _ c.args.used.now (omega (arith, ap length whole)));
-      same = λ then. ap (λ n. nearest_frame (newest n c.args.used.now) then) (ap length (sym whole));
-    }
 
 pub loop-index-preserved : goal.loop-index-preserved
 loop-index-preserved g c =

@@ -1,46 +1,43 @@
-use Rattle.std.proofs.Common.{◌≡◌, ◌-◌, ◌∷◌, length, refl, sym, ap, ◌∙◌, arith, Ok, Err, w32, SFits, to_z, of_z, rules, length-set}
+use Rattle.std.proofs.Common.{◌-◌, ◌∷◌, length, refl, sym, ap, ◌∙◌, arith, Ok, Err, w32, SFits, rules, length-set}
 use Rattle.steps.proofs.Doing.{asked, used_hands_on, used_does, done_stack}
 use Rattle.steps.proofs.Stacks.{newest_put, takes_first}
 use Rattle.steps.specs.Walks.{newest}
 use Rattle.machine.specs.Steps.{◌at◌}
 use Rattle.machine.specs.declared.parts.Entry.TheVariants.{Number}
 use Rattle.std.proofs.lemmas.Int.{to_z-of_z}
-use Rattle.steps.specs.Operations.{applied}
 use Rattle.steps.proofs.registers.Fetched.arithmetic.Goals as goal
 
 pub returns-in_err-a : goal.returns-in_err-a
-returns-in_err-a g c free memory log room =
+returns-in_err-a g c applied given free memory log room =
     used_hands_on c.args.self c.args.used.now free c.from_residual.ensures.1 (λ table true. true) (λ table true setup _. c.in_err-a.ensures _)
 
 pub returns-in_err-b : goal.returns-in_err-b
-returns-in_err-b g c free memory log room =
+returns-in_err-b g c applied given free memory log room =
     let used = c.args.used.now in
     let b = takes_first used (length used - 1) (Err c.in_err-b.field-0.0) (omega arith) c.in_err-b.ensures in
     used_hands_on c.args.self c.args.used.now free c.from_residual-in_err-b.ensures.1 (λ table true. true)
     (λ table true setup _. c.in_ok-a.ensures.1 _ ∙ b _)
 
 pub returns-in_err-verdict : goal.returns-in_err-verdict
-returns-in_err-verdict g c free memory log room =
+returns-in_err-verdict g c applied given free memory log room =
     let used = c.args.used.now in
     let b = takes_first used (length used - 1) (Ok c.in_ok-b.b) (omega arith) c.in_ok-b.ensures in
-    let asks = asked (λ q. record q { a = c.in_ok-a.a.label; b = c.in_ok-b.b.label }) (Err c.in_err-verdict.field-0.0) (rw c.into.ensures at c.request.ensures) c.in_err-verdict.ensures in
+    let asks = asked (λ q. record q { a = c.in_ok-a.a.label; b = c.in_ok-b.b.label }) (Err c.in_err-verdict.field-0.0) c.request.ensures c.in_err-verdict.ensures in
     used_hands_on c.args.self c.args.used.now free c.from_residual-in_err-verdict.ensures.1 asks.still
     (λ table true setup _. c.in_ok-a.ensures.1 _ ∙ b.1 _ ∙ asks.holds table true _)
 
 pub returns : goal.returns
-returns g c free memory log room =
+returns g c applied given free memory log room =
     let used = c.args.used.now in
     let n = length used in
     let a = c.in_ok-a.ensures in
     let b = takes_first used (n - 1) (Ok c.in_ok-b.b) (omega arith) c.in_ok-b.ensures in
-    let asks = asked (λ q. record q { a = c.in_ok-a.a.label; b = c.in_ok-b.b.label }) (Ok c.in_ok-verdict.verdict) (rw c.into.ensures at c.request.ensures) c.in_ok-verdict.ensures in
-    let fits : SFits w32 c.apply.result = search rules in
+    let asks = asked (λ q. record q { a = c.in_ok-a.a.label; b = c.in_ok-b.b.label }) (Ok c.in_ok-verdict.verdict) c.request.ensures c.in_ok-verdict.ensures in
+    let fits : SFits w32 c.rule.result = search rules in
     let fits_a : SFits w32 c.in_ok-a.a.value = search rules in
     let fits_b : SFits w32 c.in_ok-b.b.value = search rules in
-    let value : to_z w32 (of_z w32 c.apply.result) ≡ applied c.args.op c.in_ok-b.b.value c.in_ok-a.a.value =
-    to_z-of_z w32 c.apply.result fits ∙ c.apply.ensures
-    ∙ ap (λ y. applied c.args.op y (to_z w32 (of_z w32 c.in_ok-a.a.value))) (to_z-of_z w32 c.in_ok-b.b.value fits_b)
-    ∙ ap (applied c.args.op c.in_ok-b.b.value) (to_z-of_z w32 c.in_ok-a.a.value fits_a) in
+    let gave = rw (to_z-of_z w32 c.in_ok-b.b.value fits_b, to_z-of_z w32 c.in_ok-a.a.value fits_a) at c.rule.ensures in
+    let value = to_z-of_z w32 c.rule.result fits ∙ given c.in_ok-b.b.value c.in_ok-a.a.value c.rule.result fits_b fits_a gave in
     let written = newest_put used (n - 1) (n - 1 - 1) refl (omega arith) (omega arith) in
     used_does c.args.self used free _ c.next.ensures asks.still (length-set _ _ _) (omega arith) room
     (λ table true setup _.

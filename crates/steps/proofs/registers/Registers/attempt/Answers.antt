@@ -1,17 +1,14 @@
-use Rattle.std.proofs.Common.{◌≡◌, true, false, ◌<◌, length, refl, sym, ap, ◌∙◌, arith, rules, w32, w64, SFits, to_z, of_z}
-use Rattle.std.proofs.lemmas.Int.{to_z-of_z}
-use Rattle.machine.specs.Steps.{tried, halts}
+use Rattle.std.proofs.Common.{◌≡◌, true, false, ◌<◌, length, sym, ap, ◌∙◌, arith, rules, w32, w64, SFits, to_z, of_z}
+use Rattle.std.proofs.lemmas.Int.{to_z-of_z, wrapping_add_is, wrapping_sub_is}
+use Rattle.machine.specs.Steps.{tried, halts, sum, difference, is_less}
 use Rattle.machine.specs.declared.parts.Operation.TheVariants.{Bnz}
 use Rattle.steps.specs.Operations.{registers, Does}
-use Rattle.steps.proofs.Stepping.{attempted_halt, attempted_later, attempted, mapped, found_as}
+use Rattle.steps.proofs.Stepping.{attempted_halt, attempted, mapped, found_as}
 use Rattle.steps.proofs.registers.Registers.attempt.Goals as goal
 use Rattle.steps.proofs.registers.Registers.attempt.Goals.{in-Push, in-Pop, in-Noop, in-Add, in-Sub, in-Less, in-Load, in-Store, in-Jump, in-Bnz, in-Call, in-Return, in-Output, else-fuel-eq0-via-then-fuel-eq0+else-not-matches, else-fuel-eq0-via-else-fuel-eq0, in-Halt, in_default}
 
 pub returns-in-Halt-op : goal.returns-in-Halt-op
 returns-in-Halt-op g c = attempted_halt g.L.Label.kind _ c.halted.result c.in-Halt-op.is (sym c.split_at_mut-used.ensures.value) c.halted.ensures
-
-pub returns-then-not-matches : goal.returns-then-not-matches
-returns-then-not-matches g c = attempted_later g.L.Label.kind _ (grind arith) (omega arith) refl
 
 pub returns : goal.returns
 returns g c =
@@ -32,9 +29,9 @@ returns g c =
       | in-Push w ↦ (ap halts w.in-Push.is, found_as kind w.in-Push.is split before w.policy-is w.memory-is w.stack-is w.log-is w.done-is (w.push-done.ensures memory log room))
       | in-Pop w ↦ (ap halts w.in-Pop.is, found_as kind w.in-Pop.is split before w.policy-is w.memory-is w.stack-is w.log-is w.done-is (w.pop-done.ensures free memory log room))
       | in-Noop w ↦ (ap halts w.in-Noop.is, found_as kind w.in-Noop.is split before w.policy-is w.memory-is w.stack-is w.log-is w.done-is (w.noop-done.ensures free memory log room))
-      | in-Add w ↦ (ap halts w.in-Add.is, found_as kind w.in-Add.is split before w.policy-is w.memory-is w.stack-is w.log-is w.done-is (w.arithmetic-done.ensures free memory log room))
-      | in-Sub w ↦ (ap halts w.in-Sub.is, found_as kind w.in-Sub.is split before w.policy-is w.memory-is w.stack-is w.log-is w.done-is (w.arithmetic-done-in-Sub.ensures free memory log room))
-      | in-Less w ↦ (ap halts w.in-Less.is, found_as kind w.in-Less.is split before w.policy-is w.memory-is w.stack-is w.log-is w.done-is (w.arithmetic-done-in-Less.ensures free memory log room))
+      | in-Add w ↦ (ap halts w.in-Add.is, found_as kind w.in-Add.is split before w.policy-is w.memory-is w.stack-is w.log-is w.done-is (w.arithmetic-done.ensures sum (λ b a r fits_b fits_a gave. let is = wrapping_add_is w32 b a fits_b fits_a in search rules) free memory log room))
+      | in-Sub w ↦ (ap halts w.in-Sub.is, found_as kind w.in-Sub.is split before w.policy-is w.memory-is w.stack-is w.log-is w.done-is (w.arithmetic-done-in-Sub.ensures difference (λ b a r fits_b fits_a gave. let is = wrapping_sub_is w32 b a fits_b fits_a in search rules) free memory log room))
+      | in-Less w ↦ (ap halts w.in-Less.is, found_as kind w.in-Less.is split before w.policy-is w.memory-is w.stack-is w.log-is w.done-is (w.arithmetic-done-in-Less.ensures is_less (λ b a r fits_b fits_a gave. search rules) free memory log room))
       | in-Load w ↦ (ap halts w.in-Load.is, found_as kind w.in-Load.is split before w.policy-is w.memory-is w.stack-is w.log-is w.done-is (w.load-done.ensures free log room))
       | in-Store w ↦ (ap halts w.in-Store.is, found_as kind w.in-Store.is split before w.policy-is w.memory-is w.stack-is w.log-is w.done-is (w.store-done.ensures free log room))
       | in-Jump w ↦ (ap halts w.in-Jump.is, found_as kind w.in-Jump.is split before w.policy-is w.memory-is w.stack-is w.log-is w.done-is (w.jump-done.ensures free memory log room))

@@ -1,5 +1,5 @@
-use Rattle.std.proofs.Common.{◌≡◌, Some, None, Err, sym, ap, ◌∙◌, arith, w64, SFits, rules}
-use Rattle.std.proofs.lemmas.Int.{ints, to_z-of_z}
+use Rattle.std.proofs.Common.{◌≡◌, Some, None, Err, sym, ap, ◌∙◌, w64, SFits, rules}
+use Rattle.std.proofs.lemmas.Int.{to_z-of_z}
 use Rattle.std.proofs.lemmas.Result.{err_from_is_err_and}
 use Rattle.machine.specs.Steps.{at_place}
 use Rattle.machine.specs.declared.answers.Stop.TheVariants.{OutsideProgram}
@@ -15,16 +15,6 @@ returns-in_err-found g c =
     let handed_on = err_from_is_err_and c.from_residual.result c.from_residual.ensures.1 in
     steps_stopped g.L.Label.kind c.args.self (handed_on.1 ∙ ap Err (handed_on.2 ∙ stop))
     (ap (λ place. at_place c.args.program.now place None Some) (sym (to_z-of_z w64 c.args.self.pc fits)) ∙ none)
-
-pub attempt-requires : goal.attempt-requires
-attempt-requires g c =
-    let fits : SFits w64 c.args.self.pc = search rules in
-    let found = rw c.in_ok-found.ensures.ok_part at c.find.ensures in
-    record {
-      in_program = omega (arith, ints, found.0, found.1);
-      stack_holds = c.requires.stack_holds;
-      log_holds = c.requires.log_holds;
-    }
 
 pub returns : goal.returns
 returns g c =
