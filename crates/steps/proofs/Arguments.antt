@@ -1,6 +1,6 @@
 -- The numbers that a call takes.
-use Rattle.std.proofs.Common.{◌≡◌, ℕ, zero, suc, leb, ◌<◌, ◌≤◌, List, [], ◌∷◌, ◌++◌, length, take, drop, refl, sym, ap, ◌∙◌, arith}
-use Rattle.std.proofs.lemmas.Bool.{le-leb, lt-leb}
+use Rattle.std.proofs.Common.{◌≡◌, ℕ, zero, suc, leb, true, ◌<◌, ◌≤◌, List, [], ◌∷◌, ◌++◌, length, take, drop, refl, sym, ap, ◌∙◌, arith}
+use Rattle.std.proofs.lemmas.Bool.{le-leb, lt-leb, leb-true}
 use Rattle.std.proofs.lemmas.Bool.Decides.{nat_tests}
 use Rattle.std.specs.List.{list_all}
 use Rattle.machine.specs.Steps.{Outcome, stopped, taking_all, numbers_onto}
@@ -8,7 +8,8 @@ use Rattle.machine.specs.declared.answers.Stop.TheVariants.{TooFewNumbers}
 use Rattle.machine.specs.declared.parts.Entry.{Entry}
 use Rattle.machine.specs.declared.parts.Entry.TheVariants.{Number, Frame}
 use Rattle.machine.specs.declared.parts.Labelled.{Labelled}
-use Rattle.steps.specs.Walks.{numbers_on_top, is_number}
+use Rattle.steps.specs.Walks.{newest, numbers_on_top, is_number}
+use Rattle.steps.proofs.Stacks.{newest_first}
 
 leb_suc : (k n : ℕ) → leb k n ≡ leb (suc k) (suc n)
 leb_suc k n = grind (arith, nat_tests)
@@ -49,3 +50,8 @@ module _ {L : Type 0} where
   all_numbers (suc k) [] within = absurd (omega arith)
   all_numbers (suc k) (Number a ∷ es) within = all_numbers k es (omega arith) ∙ leb_suc k (numbers_on_top es)
   all_numbers (suc k) (Frame f ∷ es) within = sym (lt-leb (suc k) 0 (omega arith))
+
+  -- So many numbers lie on top of the first n entries, as it was found in them alone.
+  pub enough_numbers : (used : List (Entry L)) (n k count : ℕ) → n ≤ length used → k ≡ count → true ≡ leb k (numbers_on_top (newest (length (take n used)) (take n used))) → count ≤ numbers_on_top (newest n used)
+  enough_numbers used n k count within same found =
+      omega (arith, same, leb-true k (numbers_on_top (newest (length (take n used)) (take n used))) (sym found), ap numbers_on_top (newest_first used n within))

@@ -20,6 +20,9 @@ module _ {A : Type 0} where
   pub newest_on : (n : ℕ) (xs ys : List A) → n ≤ length xs → newest n (xs ++ ys) ≡ newest n xs
   newest_on n xs ys le = ap reverse (take-append-le n xs ys le)
 
+  pub length_in_use : (xs ys : List A) → length (newest (length xs) (xs ++ ys)) ≡ length xs
+  length_in_use xs ys = length_newest (length xs) (xs ++ ys) (omega (arith, length-append xs ys))
+
   pub newest_pushed : (xs ys : List A) (x : A) → 0 < length ys → newest (length xs + 1) (xs ++ set ys 0 x) ≡ x ∷ newest (length xs) (xs ++ ys)
   newest_pushed xs [] x room = absurd (omega arith)
   newest_pushed xs (y ∷ ys) x room =

@@ -105,13 +105,16 @@ module _ {L : Type 0} where
       fits = tt;
     }
 
-  -- An operation that was found to be another, with parts, registers and a result that are these.
+  -- An operation that was found to be another, which is no halt, with parts, registers and a result that are these.
   pub found_as : (kind : Kind L) {P : Type 0} {faithful : P → Table L → Type 0} {policy policy' policy'' : P} {op op' : Operation L} {memory memory' memory'' log log' log'' : List (Labelled L)}
       {stack stack' whole whole' : List (Entry L)} {before before' : Registers L} {r r' : Result (Registers L) Stop}
-      → op ≡ op' → stack ≡ whole → before ≡ before' → policy' ≡ policy'' → memory' ≡ memory'' → stack' ≡ whole' → log' ≡ log'' → r ≡ r'
+      → op ≡ op' → halts op' ≡ false → stack ≡ whole → before ≡ before' → policy' ≡ policy'' → memory' ≡ memory'' → stack' ≡ whole' → log' ≡ log'' → r ≡ r'
       → Does faithful policy policy'' memory memory'' whole whole' log log'' before' r' (λ table setup. tried kind table setup op')
-      → Does faithful policy policy' memory memory' stack stack' log log' before r (λ table setup. tried kind table setup op)
-  found_as kind op_is stack_is before_is policy_is memory_is after_is log_is r_is did = rw (op_is, stack_is, before_is, policy_is, memory_is, after_is, log_is, r_is) did
+      → (halts op ≡ false) × Does faithful policy policy' memory memory' stack stack' log log' before r (λ table setup. tried kind table setup op)
+  found_as kind op_is no_halt stack_is before_is policy_is memory_is after_is log_is r_is did = (
+    ap halts op_is ∙ no_halt,
+    rw (op_is, stack_is, before_is, policy_is, memory_is, after_is, log_is, r_is) did,
+  )
 
 module _ {L : Type 0} (kind : Kind L) (table : Table L) (setup : Setup L) (fuel : ℕ) (s : Round L) (program : List (Operation L)) (is : setup.program ≡ program) where
   fetch : step kind table setup fuel s ≡ at_place program s.pc (stopped OutsideProgram) (attempt kind table setup fuel s)

@@ -1,12 +1,12 @@
-use Rattle.std.proofs.Common.{◌≡◌, ◌-◌, ◌<◌, ◌≤◌, ◌∷◌, ◌++◌, length, take, drop, ℤ, pos, ◌+ℤ◌, sym, ap, ◌∙◌, arith, Ok, Err, w32, w64, SFits, to_z, of_z, rules}
+use Rattle.std.proofs.Common.{◌≡◌, ◌-◌, ◌<◌, ◌∷◌, ◌++◌, length, take, drop, ℤ, pos, ◌+ℤ◌, sym, ap, ◌∙◌, arith, Ok, Err, w32, w64, SFits, to_z, of_z, rules}
 use Rattle.steps.proofs.Doing.{asked, used_stops, used_hands_on, used_does, done_stack, done_place}
 use Rattle.steps.proofs.Stacks.{newest_first, length_newest}
 use Rattle.steps.specs.Walks.{newest, numbers_on_top}
 use Rattle.machine.specs.declared.parts.Entry.{Entry}
 use Rattle.machine.specs.declared.parts.Entry.TheVariants.{Frame}
 use Rattle.std.proofs.lemmas.Int.{ints, to_z-of_z}
-use Rattle.steps.proofs.Arguments.{takes_all, takes_too_many, taken_onto, numbers_within}
-use Rattle.std.proofs.lemmas.Bool.{leb-true, leb-false}
+use Rattle.steps.proofs.Arguments.{takes_all, takes_too_many, taken_onto, numbers_within, enough_numbers}
+use Rattle.std.proofs.lemmas.Bool.{leb-false}
 use Rattle.steps.proofs.registers.Fetched.call.Goals as goal
 
 pub returns-in_err-a : goal.returns-in_err-a
@@ -28,8 +28,7 @@ returns-in_err-verdict g c free memory log room =
     let used = c.args.used.now in
     let n = length used in
     let below = newest (n - 1) used in
-    let counted = leb-true c.from-arguments.result _ (sym c.if-not-has_numbers.ensures) in
-    let enough : c.args.count ≤ numbers_on_top below = omega (arith, ap numbers_on_top (newest_first used (n - 1) (omega arith))) in
+    let enough = enough_numbers used (n - 1) c.from-arguments.result c.args.count (omega arith) c.from-arguments.ensures c.if-not-has_numbers.ensures in
     let asks = asked (λ q. record q { a = c.in_ok-a.a.label }) (Err c.in_err-verdict.field-0.0) c.request.ensures c.in_err-verdict.ensures in
     used_hands_on c.args.self used free c.from_residual-in_err-verdict.ensures.1 asks.still
     (λ table true setup _. c.in_ok-a.ensures.1 _ ∙ takes_all c.args.count below _ enough ∙ asks.holds table true _)
@@ -40,8 +39,7 @@ insert_under-requires g c =
     let used = c.args.used.now in
     let n = length used in
     let below = newest (n - 1) used in
-    let counted = leb-true c.from-arguments.result _ (sym c.if-not-has_numbers.ensures) in
-    let enough : c.args.count ≤ numbers_on_top below = omega (arith, ap numbers_on_top (newest_first used (n - 1) (omega arith))) in
+    let enough = enough_numbers used (n - 1) c.from-arguments.result c.args.count (omega arith) c.from-arguments.ensures c.if-not-has_numbers.ensures in
     omega (arith, a.0, numbers_within below, length_newest (n - 1) used (omega arith))
 
 pub returns : goal.returns
@@ -50,8 +48,7 @@ returns g c free memory log room =
     let used = c.args.used.now in
     let n = length used in
     let below = newest (n - 1) used in
-    let counted = leb-true c.from-arguments.result _ (sym c.if-not-has_numbers.ensures) in
-    let enough : c.args.count ≤ numbers_on_top below = omega (arith, ap numbers_on_top (newest_first used (n - 1) (omega arith))) in
+    let enough = enough_numbers used (n - 1) c.from-arguments.result c.args.count (omega arith) c.from-arguments.ensures c.if-not-has_numbers.ensures in
     let asks = asked (λ q. record q { a = c.in_ok-a.a.label }) (Ok c.in_ok-verdict.verdict) c.request.ensures c.in_ok-verdict.ensures in
     let fits : SFits w32 c.in_ok-a.a.value = search rules in
     let place : to_z w64 (of_z w64 c.from.result) ≡ c.in_ok-a.a.value = omega (arith, ints) in

@@ -1,4 +1,4 @@
-use Rattle.std.proofs.Common.{◌≡◌, true, false, ◌<◌, length, sym, ap, ◌∙◌, arith, rules, w32, w64, SFits, to_z, of_z}
+use Rattle.std.proofs.Common.{◌≡◌, true, false, ◌<◌, length, refl, sym, ap, ◌∙◌, arith, rules, w32, w64, SFits, to_z, of_z}
 use Rattle.std.proofs.lemmas.Int.{to_z-of_z, wrapping_add_is, wrapping_sub_is}
 use Rattle.machine.specs.Steps.{tried, halts, sum, difference, is_less}
 use Rattle.machine.specs.declared.parts.Operation.TheVariants.{Bnz}
@@ -26,21 +26,21 @@ returns g c =
     let m = c.match-op in
     let did : (halts c.args.op ≡ false) × Does g.P.Policy.faithful c.args.policy.now m.policy memory m.memory c.args.stack.now m.stack log m.log c.args.self m.done (λ table setup. tried kind table setup c.args.op) =
     elim m.branch [
-      | in-Push w ↦ (ap halts w.in-Push.is, found_as kind w.in-Push.is split before w.policy-is w.memory-is w.stack-is w.log-is w.done-is (w.push-done.ensures memory log room))
-      | in-Pop w ↦ (ap halts w.in-Pop.is, found_as kind w.in-Pop.is split before w.policy-is w.memory-is w.stack-is w.log-is w.done-is (w.pop-done.ensures free memory log room))
-      | in-Noop w ↦ (ap halts w.in-Noop.is, found_as kind w.in-Noop.is split before w.policy-is w.memory-is w.stack-is w.log-is w.done-is (w.noop-done.ensures free memory log room))
-      | in-Add w ↦ (ap halts w.in-Add.is, found_as kind w.in-Add.is split before w.policy-is w.memory-is w.stack-is w.log-is w.done-is (w.arithmetic-done.ensures sum (λ b a r fits_b fits_a gave. let is = wrapping_add_is w32 b a fits_b fits_a in search rules) free memory log room))
-      | in-Sub w ↦ (ap halts w.in-Sub.is, found_as kind w.in-Sub.is split before w.policy-is w.memory-is w.stack-is w.log-is w.done-is (w.arithmetic-done-in-Sub.ensures difference (λ b a r fits_b fits_a gave. let is = wrapping_sub_is w32 b a fits_b fits_a in search rules) free memory log room))
-      | in-Less w ↦ (ap halts w.in-Less.is, found_as kind w.in-Less.is split before w.policy-is w.memory-is w.stack-is w.log-is w.done-is (w.arithmetic-done-in-Less.ensures is_less (λ b a r fits_b fits_a gave. search rules) free memory log room))
-      | in-Load w ↦ (ap halts w.in-Load.is, found_as kind w.in-Load.is split before w.policy-is w.memory-is w.stack-is w.log-is w.done-is (w.load-done.ensures free log room))
-      | in-Store w ↦ (ap halts w.in-Store.is, found_as kind w.in-Store.is split before w.policy-is w.memory-is w.stack-is w.log-is w.done-is (w.store-done.ensures free log room))
-      | in-Jump w ↦ (ap halts w.in-Jump.is, found_as kind w.in-Jump.is split before w.policy-is w.memory-is w.stack-is w.log-is w.done-is (w.jump-done.ensures free memory log room))
+      | in-Push w ↦ found_as kind w.in-Push.is refl split before w.policy-is w.memory-is w.stack-is w.log-is w.done-is (w.push-done.ensures memory log room)
+      | in-Pop w ↦ found_as kind w.in-Pop.is refl split before w.policy-is w.memory-is w.stack-is w.log-is w.done-is (w.pop-done.ensures free memory log room)
+      | in-Noop w ↦ found_as kind w.in-Noop.is refl split before w.policy-is w.memory-is w.stack-is w.log-is w.done-is (w.noop-done.ensures free memory log room)
+      | in-Add w ↦ found_as kind w.in-Add.is refl split before w.policy-is w.memory-is w.stack-is w.log-is w.done-is (w.arithmetic-done.ensures sum (λ b a r fits_b fits_a gave. let is = wrapping_add_is w32 b a fits_b fits_a in search rules) free memory log room)
+      | in-Sub w ↦ found_as kind w.in-Sub.is refl split before w.policy-is w.memory-is w.stack-is w.log-is w.done-is (w.arithmetic-done-in-Sub.ensures difference (λ b a r fits_b fits_a gave. let is = wrapping_sub_is w32 b a fits_b fits_a in search rules) free memory log room)
+      | in-Less w ↦ found_as kind w.in-Less.is refl split before w.policy-is w.memory-is w.stack-is w.log-is w.done-is (w.arithmetic-done-in-Less.ensures is_less (λ b a r fits_b fits_a gave. search rules) free memory log room)
+      | in-Load w ↦ found_as kind w.in-Load.is refl split before w.policy-is w.memory-is w.stack-is w.log-is w.done-is (w.load-done.ensures free log room)
+      | in-Store w ↦ found_as kind w.in-Store.is refl split before w.policy-is w.memory-is w.stack-is w.log-is w.done-is (w.store-done.ensures free log room)
+      | in-Jump w ↦ found_as kind w.in-Jump.is refl split before w.policy-is w.memory-is w.stack-is w.log-is w.done-is (w.jump-done.ensures free memory log room)
       | in-Bnz w ↦
           let fits : SFits w32 w.in-Bnz.by = search rules in
-          (ap halts w.in-Bnz.is, found_as kind (w.in-Bnz.is ∙ ap Bnz (sym (to_z-of_z w32 w.in-Bnz.by fits))) split before w.policy-is w.memory-is w.stack-is w.log-is w.done-is (w.bnz-done.ensures free memory log room))
-      | in-Call w ↦ (ap halts w.in-Call.is, found_as kind w.in-Call.is split before w.policy-is w.memory-is w.stack-is w.log-is w.done-is (w.call-done.ensures free memory log room))
-      | in-Return w ↦ (ap halts w.in-Return.is, found_as kind w.in-Return.is split before w.policy-is w.memory-is w.stack-is w.log-is w.done-is (w.return_to_frame-done.ensures free memory log room))
-      | in-Output w ↦ (ap halts w.in-Output.is, found_as kind w.in-Output.is split before w.policy-is w.memory-is w.stack-is w.log-is w.done-is (w.output-done.ensures free memory room))
+          found_as kind (w.in-Bnz.is ∙ ap Bnz (sym (to_z-of_z w32 w.in-Bnz.by fits))) refl split before w.policy-is w.memory-is w.stack-is w.log-is w.done-is (w.bnz-done.ensures free memory log room)
+      | in-Call w ↦ found_as kind w.in-Call.is refl split before w.policy-is w.memory-is w.stack-is w.log-is w.done-is (w.call-done.ensures free memory log room)
+      | in-Return w ↦ found_as kind w.in-Return.is refl split before w.policy-is w.memory-is w.stack-is w.log-is w.done-is (w.return_to_frame-done.ensures free memory log room)
+      | in-Output w ↦ found_as kind w.in-Output.is refl split before w.policy-is w.memory-is w.stack-is w.log-is w.done-is (w.output-done.ensures free memory room)
     ] in
     let fuelled : 0 < c.args.fuel =
     elim c.else-fuel-eq0.branch [
