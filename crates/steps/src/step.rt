@@ -55,6 +55,7 @@ impl<L: Label> Registers<L> {
             commands: self.commands,
         };
         let (used, free) = stack.split_at_mut(self.depth);
+        // The match is the interpreter: each operation reaches other parts, so a table of functions would have to lend all to each.
         // The rules are closures, since a proof knows nothing of what `i32::wrapping_add` gives when it is passed by that name.
         let done = match op {
             Operation::Halt => return self.halted(),
