@@ -131,6 +131,7 @@ impl FromStr for PolicyName {
     }
 }
 
+// By hand, as every text here: the crates stand on the standard library alone, which has no derive for it.
 impl fmt::Display for Misuse<'_> {
     fn fmt<W: fmt::Write>(&self, f: &mut fmt::Formatter<W>) -> fmt::Result {
         match *self {

@@ -1,6 +1,6 @@
 // `drip rules`: questions from a file or standard input, answered by a policy that is true to the published rows.
 ghost use Rattle.rules.specs.Tables.{published};
-ghost use Rattle.text.specs.Answers.{ByTable};
+ghost use Rattle.text.specs.Answers.{Answers, ByTable};
 
 use crate::Failure;
 use crate::command::{Kind, KindName, PolicyName, Rules};
@@ -39,7 +39,8 @@ impl<P: Policy<L>, L: Label> Faithful<P, L> {
 
     // The answer to the question on a line, if there is one: the published rows'.
     fn answer<'a>(&mut self, line: &'a str) -> Result<Option<Answer<L>>, Fault<'a>>
-        ensures { ByTable (published L.Label.kind) result }
+        ensures answers { Answers L.Label.text L.Label.kind.bottom P.Policy.asked line.now self.old result self.new }
+        ensures told { ByTable (published L.Label.kind) result }
     {
         answer_line::<P, L>(&mut self.policy, line)
     }
@@ -57,8 +58,8 @@ impl<'a> Session<'a> {
         Session { rt, asked }
     }
 
-    // Answers what is asked, with labels of the kind that is asked for. A kind, and below a policy, is a type here, so
-    // each is named: a `dyn` would be made of each too, and a dyn of Policy<L>, whose trait has a parameter, gets no proof.
+    // Answers what is asked, with labels of the kind that is asked for. A kind of label is a type, and so is a policy below, so each
+    // is named in a match. A `dyn` Policy<L> in place of the types gets no proof yet, since its trait has a parameter.
     pub fn answer(self) -> Result<(), Failure> {
         match self.asked.kind {
             Kind::One(KindName::Levels) => self.answer_labelled::<Level>(),

@@ -58,13 +58,11 @@ impl Label for Growers {
 impl fmt::Display for Growers {
     ghost output = { λ x. Some (grower_text x) };
 
-    // Not by `{:04x}`, of which no contract says what it writes.
+    // Byte by byte: the library has lemmas for two hexadecimal digits, and none for the four of `{:04x}`.
     fn fmt<W: fmt::Write>(&self, f: &mut fmt::Formatter<W>) -> fmt::Result {
-        let a = hex_digit(self.mask / 4096);
-        let b = hex_digit(self.mask / 256 % 16);
-        let c = hex_digit(self.mask / 16 % 16);
-        let d = hex_digit(self.mask % 16);
-        write!(f, "{a}{b}{c}{d}")
+        let high = self.mask / 256;
+        let low = self.mask % 256;
+        write!(f, "{high:02x}{low:02x}")
     }
 }
 
@@ -80,14 +78,6 @@ fn union(a: u16, b: u16) -> u16
     ensures { result ≡ bit_or a b }
 {
     a | b
-}
-
-// The lower-case hexadecimal digit of a number below 16.
-fn hex_digit(n: u16) -> char
-    requires { n < 16 }
-    ensures { result ≡ hex n }
-{
-    char::from_digit(u32::from(n), 16).unwrap()
 }
 
 // The number of a lower-case hexadecimal digit. Not by `char::to_digit`, which takes capitals too.

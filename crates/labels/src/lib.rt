@@ -47,7 +47,8 @@ pub trait Label: Copy + fmt::Display {
     ghost shown: { Shows text Self.output };
 }
 
-// Whether two labels of any kind are the same, by the order both ways.
+// Whether two labels of any kind are the same, by the order both ways. A derived `==` would ask every kind for an equality of its
+// own, and for a law that it is identity.
 pub fn same<L: Label>(a: L, b: L) -> bool
     ensures { IsTrue result ↔ (a ≡ b) }
 {

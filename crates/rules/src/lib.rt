@@ -69,7 +69,8 @@ pub trait Policy<L: Label> {
 }
 
 impl<L: Label> Request<L> {
-    // Whether two requests are the same. Not by a derived `==`, which would ask every kind of label for an equality of its own.
+    // Whether two requests are the same, for every kind of label. The derived `==` asks for one whose labels have a `==`, and says
+    // nothing of identity.
     pub fn same_as(self, other: Request<L>) -> bool
         ensures { IsTrue result ↔ (self ≡ other) }
     {

@@ -71,7 +71,7 @@ fn join_of<L: Label>(set: Letters, request: Request<L>) -> L
         .join(pick(set.p, request.pc))
 }
 
-// The label if its letter is in the set, else bottom. The letter stands in a row and the label in a request, so there is no Option.
+// The label if its letter is in the set, else bottom. The letter stands in a row and the label in a request, and an Option made of the two would be no plainer.
 fn pick<L: Label>(present: bool, label: L) -> L
     ensures { result ≡ letter L.Label.kind present label }
 {
@@ -104,16 +104,21 @@ fn published_rows() -> [Row; 13]
     let from_both = row_of(P, AB);
     let branch = row_of(AP, NONE);
     [
+        // push, pop, noop
         row_of(P, A),
         row_of(P, NONE),
         row_of(P, NONE),
+        // add, sub, less, load
         from_both,
         from_both,
         from_both,
         from_both,
+        // store
         row_of(P, ABP),
+        // jump, bnz
         branch,
         branch,
+        // call, return, output
         row_of(AP, P),
         row_of(A, BP),
         row_of(P, AP),

@@ -12,10 +12,7 @@ fn request(op: Opcode, pc: Level, a: Level, b: Level, c: Level) -> Request<Level
 }
 
 fn is(verdict: Option<Verdict<Level>>, pc: Level, res: Level) -> bool {
-    match verdict {
-        Some(v) => same(v.pc, pc) && same(v.result, res),
-        None => false,
-    }
+    verdict == Some(Verdict { pc, result: res })
 }
 
 // Store to a cell: allowed where address and program counter are at or below the cell's label.

@@ -8,7 +8,7 @@ use std::error::Error;
 use std::fmt;
 use std::str::FromStr;
 
-// Every operation.
+// Every operation. An enum has no list of its variants.
 const ALL: [Opcode; 13] = [
     Opcode::Push,
     Opcode::Pop,

@@ -45,6 +45,7 @@ pub fn read_request<L: Label>(line: &str) -> Result<Option<Request<L>>, Fault<'_
     let Some((word, rest)) = next_word(line) else {
         return Ok(None);
     };
+    // Each word is read by a call of its own: a loop over the words would have to say which of the four labels is due.
     let op = operation_named(word)?;
     let (pc, rest) = next_label(rest)?;
     let (a, rest) = next_label(rest)?;
