@@ -14,34 +14,34 @@ pub enum Part {
 // Why a call is refused. A refused call changes nothing.
 #[derive(Clone, Copy, Debug, PartialEq, Eq, Hash)]
 pub enum Refusal {
-    // 1: making, with a part outside its limits
+    // making, with a part outside its limits
     Limits(Part),
-    // 2: a part not as long as when the station was made
+    // a part not as long as when the station was made
     Length(Part),
-    // 3: a cell outside the memory
+    // a cell outside the memory
     Cell,
-    // 4: a look at a label that is not at or below the clearance
+    // a look at a label that is not at or below the clearance
     Clearance,
 }
 
 // Why a round is stopped, which shuts the station.
 #[derive(Clone, Copy, Debug, PartialEq, Eq, Hash)]
 pub enum Stop {
-    // 21: the program counter is outside the program
+    // the program counter is outside the program
     OutsideProgram,
-    // 22: too few numbers above the nearest frame
+    // too few numbers above the nearest frame
     TooFewNumbers,
-    // 23: the stack is full
+    // the stack is full
     StackFull,
-    // 24: an address outside the memory
+    // an address outside the memory
     OutsideMemory,
-    // 25: the policy forbids the operation
+    // the policy forbids the operation
     Forbidden,
-    // 26: a return without a frame
+    // a return without a frame
     NoFrame,
-    // 27: the log is full
+    // the log is full
     LogFull,
-    // 28: a halt above the bottom label
+    // a halt above the bottom label
     HaltAboveBottom,
 }
 
