@@ -11,7 +11,6 @@ use Rattle.machine.specs.declared.parts.Entry.{Entry}
 use Rattle.machine.specs.declared.parts.Labelled.{Labelled}
 use Rattle.steps.specs.Operations.{registers, starting, round, Rules, Under, Does}
 use Rattle.steps.specs.declared.registers.Registers.{Registers}
-use Rattle.steps.specs.declared.registers.Fetched.{Fetched}
 use Rattle.steps.proofs.Stacks.{newest_on}
 
 module _ {L : Type 0} where
@@ -24,9 +23,6 @@ module _ {L : Type 0} where
 
   pub done_memory : {pc : ℤ} {label : L} {stack : List (Entry L)} {memory memory' commands : List (Labelled L)} → memory ≡ memory' → at pc label stack memory commands ≡ at pc label stack memory' commands
   done_memory {pc} {label} {stack} {memory} {memory'} {commands} same = ap (λ m. at pc label stack m commands) same
-
-  pub done_commands : {pc : ℤ} {label : L} {stack : List (Entry L)} {memory commands commands' : List (Labelled L)} → commands ≡ commands' → at pc label stack memory commands ≡ at pc label stack memory commands'
-  done_commands {pc} {label} {stack} {memory} {commands} {commands'} same = ap (λ g. at pc label stack memory g) same
 
   pub done_place : {pc pc' : ℤ} {label : L} {stack : List (Entry L)} {memory commands : List (Labelled L)} → pc ≡ pc' → at pc label stack memory commands ≡ at pc' label stack memory commands
   done_place {pc} {pc'} {label} {stack} {memory} {commands} same = ap (λ p. at p label stack memory commands) same
@@ -100,14 +96,14 @@ module _ {L : Type 0} where
   asked {P} {faithful} {policy} {policy'} {q} {q'} fill r same under = subst (λ x. Under faithful policy policy' (λ table. Rules (table (fill x)) r)) same under
 
   -- What an operation starts from is the same with what lies beyond the entries in use as without it.
-  before_is : (start : Fetched L) (used free : List (Entry L)) (memory log : List (Labelled L)) → round (starting start (length used)) memory (used ++ free) log ≡ round (starting start (length used)) memory used log
+  before_is : (start : Registers L) (used free : List (Entry L)) (memory log : List (Labelled L)) → round (starting start (length used)) memory (used ++ free) log ≡ round (starting start (length used)) memory used log
   before_is start used free memory log = ap on (newest_on (length used) used free (omega arith))
     where
       on : List (Entry L) → Round L
-      on s = record { pc = start.pc.number; pc_label = start.pc_label; stack = s; kept = (round (starting start (length used)) memory used log).kept }
+      on s = record { pc = start.pc; pc_label = start.pc_label; stack = s; kept = (round (starting start (length used)) memory used log).kept }
 
   -- The same over the entries in use, whatever lies beyond them.
-  module _ {P : Type 0} {faithful : P → Table L → Type 0} {policy policy' : P} {memory log : List (Labelled L)} {defined : Table L → Setup L → Round L → Outcome L} (start : Fetched L) (used free : List (Entry L)) where
+  module _ {P : Type 0} {faithful : P → Table L → Type 0} {policy policy' : P} {memory log : List (Labelled L)} {defined : Table L → Setup L → Round L → Outcome L} (start : Registers L) (used free : List (Entry L)) where
     pub used_stops : {stop : Stop} → ((table : Table L) → faithful policy table → faithful policy' table)
         → ((table : Table L) → faithful policy table → (setup : Setup L) → setup.sizes.log ≡ length log
         → defined table setup (round (starting start (length used)) memory used log) ≡ stopped stop)

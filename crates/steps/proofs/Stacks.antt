@@ -1,6 +1,6 @@
 -- The first elements of a lent part, the newest first, as the code reads and writes them.
 use Rattle.std.proofs.Common.{◌≡◌, ℕ, Ok, Err, Result, ◌+◌, ◌-◌, ◌<◌, ◌≤◌, List, [], ◌∷◌, ◌++◌, reverse, length, take, set, refl, sym, ap, ◌∙◌, arith}
-use Rattle.std.proofs.lemmas.List.{append_assoc, take_all, take_at, take-take, length-take, take-append-le, length-append, length-reverse, length-take-le, take_more_set, reverse-append}
+use Rattle.std.proofs.lemmas.List.{take_all, take_at, take-take, length-take, take-append-le, length-append, length-reverse, length-take-le, take_more_set, reverse-append}
 use Rattle.machine.specs.Steps.{taking}
 use Rattle.machine.specs.declared.answers.Stop.{Stop}
 use Rattle.machine.specs.declared.parts.Entry.{Entry}
@@ -19,18 +19,6 @@ module _ {A : Type 0} where
   -- what lies beyond the entries in use
   pub newest_on : (n : ℕ) (xs ys : List A) → n ≤ length xs → newest n (xs ++ ys) ≡ newest n xs
   newest_on n xs ys le = ap reverse (take-append-le n xs ys le)
-
-  pub length_in_use : (xs ys : List A) → length (newest (length xs) (xs ++ ys)) ≡ length xs
-  length_in_use xs ys = length_newest (length xs) (xs ++ ys) (omega (arith, length-append xs ys))
-
-  pub newest_pushed : (xs ys : List A) (x : A) → 0 < length ys → newest (length xs + 1) (xs ++ set ys 0 x) ≡ x ∷ newest (length xs) (xs ++ ys)
-  newest_pushed xs [] x room = absurd (omega arith)
-  newest_pushed xs (y ∷ ys) x room =
-      let one : length (xs ++ x ∷ []) ≡ length xs + 1 = omega (arith, length-append xs (x ∷ [])) in
-      ap (λ s. newest (length xs + 1) s) (sym (append_assoc xs (x ∷ []) ys))
-      ∙ ap reverse (take_at (xs ++ x ∷ []) ys (length xs + 1) one)
-      ∙ reverse-append xs (x ∷ [])
-      ∙ ap (λ s. x ∷ reverse s) (sym (take_at xs (y ∷ ys) (length xs) refl))
 
   -- A walk from the newest entry down, when it comes to x: what is left of it.
   pub record Walks (xs rest left : List A) (x : A) : Type 0 where

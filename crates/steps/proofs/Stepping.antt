@@ -2,13 +2,13 @@
 use Rattle.std.proofs.Common.{◌≡◌, ℕ, zero, suc, ◌<◌, false, cond, List, Some, None, Ok, Err, Result, IsOkAnd, MatchResult, refl, sym, ap, subst, ◌∙◌, arith}
 use Rattle.labels.specs.Kind.{Kind}
 use Rattle.rules.specs.Tables.{Table}
-use Rattle.machine.specs.Steps.{Setup, Round, stopped, at_place, halts, halted, with_fuel, tried, attempt, step}
+use Rattle.machine.specs.Steps.{Setup, Round, stopped, at_place, halts, halted, tried, attempt, step}
 use Rattle.machine.specs.declared.answers.Stop.{Stop}
 use Rattle.machine.specs.declared.answers.Stop.TheVariants.{OutsideProgram}
 use Rattle.machine.specs.declared.parts.Entry.{Entry}
 use Rattle.machine.specs.declared.parts.Labelled.{Labelled}
 use Rattle.machine.specs.declared.parts.Operation.{Operation}
-use Rattle.machine.specs.declared.parts.Operation.TheVariants.{Push, Pop, Noop, Add, Sub, Less, Load, Store, Jump, Bnz, Call, Return, Output, Halt}
+use Rattle.machine.specs.declared.parts.Operation.TheVariants.{Halt}
 use Rattle.steps.specs.Operations.{round, Does}
 use Rattle.steps.specs.Steps.{NotDone, OnlyDoneChanges, DoneFits, Halts, Attempted, Steps}
 use Rattle.steps.specs.declared.registers.Registers.{Registers}
@@ -41,22 +41,6 @@ module _ {L : Type 0} where
   mapped (Ok q) (Err e) cases = absurd cases
   mapped (Err e) answer cases = cases
 
-  no_halt : (op : Operation L) → (op ≡ Halt → ⊥) → halts op ≡ false
-  no_halt (Push v) not = refl
-  no_halt Pop not = refl
-  no_halt Noop not = refl
-  no_halt Add not = refl
-  no_halt Sub not = refl
-  no_halt Less not = refl
-  no_halt Load not = refl
-  no_halt Store not = refl
-  no_halt Jump not = refl
-  no_halt (Bnz k) not = refl
-  no_halt (Call k due) not = refl
-  no_halt Return not = refl
-  no_halt Output not = refl
-  no_halt Halt not = absurd (not refl)
-
   fuelled : (kind : Kind L) (table : Table L) (setup : Setup L) (op : Operation L) (fuel : ℕ) (s : Round L) → halts op ≡ false → 0 < fuel → attempt kind table setup fuel s op ≡ tried kind table setup op s
   fuelled kind table setup op zero s not some = absurd (omega arith)
   fuelled kind table setup op (suc fuel) s not some = ap (λ b. cond b (halted kind table setup s) (tried kind table setup op s)) not
@@ -73,17 +57,6 @@ module _ {L : Type 0} where
           fits = not_done_fits fuel _ _ answer halt.not_done;
         } in
         subst (λ s. Attempted kind faithful policy policy op memory memory stack s log log fuel before answer) (sym same) went
-
-    pub attempted_later : (stack' : List (Entry L)) → (op ≡ Halt → ⊥) → fuel ≡ 0 → stack' ≡ stack → Attempted kind faithful policy policy op memory memory stack stack' log log fuel before (Ok Later)
-    attempted_later stack' not none same = record {
-      comes_to = λ table true setup _ _. let s = round before memory stack log in
-          sym (ap (λ b. cond b (halted kind table setup s) (with_fuel fuel (tried kind table setup op s))) (no_halt op not) ∙ ap (λ f. with_fuel f (tried kind table setup op s)) none);
-      still = λ table true. true;
-      keeps_memory = refl;
-      keeps_stack = same;
-      keeps_log = refl;
-      fits = tt;
-    }
 
     pub attempted : {policy' : P} {memory' log' : List (Labelled L)} {stack' : List (Entry L)} (r : Result (Registers L) Stop) → halts op ≡ false → 0 < fuel
         → Does faithful policy policy' memory memory' stack stack' log log' before r (λ table setup. tried kind table setup op)

@@ -36,9 +36,13 @@ module _ {L : Type 0} where
     kept = record { memory = memory; commands = take r.commands log };
   }
 
-  -- The registers that an operation starts from, with so many entries in use.
-  abbrev pub starting : Fetched L → ℕ → Registers L
-  starting start depth = registers start.pc.number start.pc_label depth start.commands
+  -- The registers with so many entries in use.
+  abbrev pub starting : Registers L → ℕ → Registers L
+  starting start depth = registers start.pc start.pc_label depth start.commands
+
+  -- The registers at an operation of the program; the entries in use are handed to the operation.
+  abbrev pub placed : Fetched L → Registers L
+  placed f = registers f.pc.number f.pc_label 0 f.commands
 
   -- An operation was done, with these registers after it, or stopped.
   abbrev pub outcome : Result (Registers L) Stop → (Registers L → Round L) → Outcome L
@@ -74,13 +78,13 @@ module _ {P L : Type 0} (faithful : P → Table L → Type 0) where
     pub fits : Fits (length stack) (length log) r
 
   -- An operation that is handed the entries in use alone, whatever lies beyond them and whatever memory and log are.
-  abbrev pub OnStack : P → P → List (Entry L) → List (Entry L) → Fetched L → Result (Registers L) Stop → (Table L → Setup L → Round L → Outcome L) → Type 0
+  abbrev pub OnStack : P → P → List (Entry L) → List (Entry L) → Registers L → Result (Registers L) Stop → (Table L → Setup L → Round L → Outcome L) → Type 0
   OnStack policy policy' used used' start r defined =
       (free : List (Entry L)) (memory log : List (Labelled L)) → start.commands ≤ length log
       → Does policy policy' memory memory (used ++ free) (used' ++ free) log log (starting start (length used)) r defined
 
   -- An operation that is handed the memory and the entries in use, which it leaves as they are, whatever the rest is.
-  abbrev pub OnMemory : P → P → List (Labelled L) → List (Labelled L) → List (Entry L) → Fetched L → Result (Registers L) Stop → (Table L → Setup L → Round L → Outcome L) → Type 0
+  abbrev pub OnMemory : P → P → List (Labelled L) → List (Labelled L) → List (Entry L) → Registers L → Result (Registers L) Stop → (Table L → Setup L → Round L → Outcome L) → Type 0
   OnMemory policy policy' memory memory' used start r defined =
       (free : List (Entry L)) (log : List (Labelled L)) → start.commands ≤ length log
       → Does policy policy' memory memory' (used ++ free) (used ++ free) log log (starting start (length used)) r defined

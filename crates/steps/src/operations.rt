@@ -7,7 +7,7 @@ ghost use Rattle.machine.specs.Steps.{tried, arithmetic as arithmetic_on, return
 ghost use Rattle.machine.specs.declared.parts.Entry.{Entry as EntryD};
 ghost use Rattle.machine.specs.declared.parts.Labelled.{Labelled as LabelledD};
 ghost use Rattle.machine.specs.declared.parts.Operation.TheVariants.{Push, Pop, Noop, Load, Store, Jump, Bnz, Call, Return, Output};
-ghost use Rattle.steps.specs.Operations.{labelled as labelled_with, registers as registers_of, starting, request as request_of, Rules, Under, Does, OnStack, OnMemory};
+ghost use Rattle.steps.specs.Operations.{labelled as labelled_with, registers as registers_of, placed, starting, request as request_of, Rules, Under, Does, OnStack, OnMemory};
 ghost use Rattle.steps.specs.Walks.{newest};
 
 use crate::registers::{Fetched, Registers};
@@ -30,6 +30,20 @@ fn ask<P: Policy<L>, L: Label>(policy: &mut P, request: Request<L>) -> Result<Ve
     policy.rule(request).ok_or(Stop::Forbidden)
 }
 
+// What the policy is asked about an operation on no labels: the labels that an operation leaves out are bottom.
+fn request<L: Label>(pc: L, op: Opcode) -> Request<L>
+    ensures { result ≡ request_of op pc L.Label.kind.bottom L.Label.kind.bottom L.Label.kind.bottom }
+{
+    let none = L::bottom();
+    Request {
+        op,
+        pc,
+        a: none,
+        b: none,
+        c: none,
+    }
+}
+
 impl<L: Label> Fetched<L> {
     // The registers at a place, with this label and so many entries in use.
     fn goto(self, pc: i64, pc_label: L, depth: usize) -> Registers<L>
@@ -50,63 +64,49 @@ impl<L: Label> Fetched<L> {
         self.goto(self.pc.next(), pc_label, depth)
     }
 
-    // What the policy is asked about an operation on no labels: the labels that an operation leaves out are bottom.
-    fn request(self, op: Opcode) -> Request<L>
-        ensures { result ≡ request_of op self.pc_label L.Label.kind.bottom L.Label.kind.bottom L.Label.kind.bottom }
-    {
-        let none = L::bottom();
-        Request {
-            op,
-            pc: self.pc_label,
-            a: none,
-            b: none,
-            c: none,
-        }
-    }
-
     pub fn push<P: Policy<L>>(
         self,
         number: Labelled<L>,
-        used: &[Entry<L>],
-        free: &mut [Entry<L>],
+        depth: usize,
+        stack: &mut [Entry<L>],
         policy: &mut P,
     ) -> Result<Registers<L>, Stop>
-        requires { length used.now + length free.old < 2 ^ 64 }
-        ensures { (memory log : List (LabelledD L)) → self.commands ≤ length log → Does P.Policy.faithful policy.old policy.new memory memory (used.now ++ free.old) (used.now ++ free.new) log log (starting self (length used.now)) result (λ table setup. tried L.Label.kind table setup (Push number)) }
+        ensures { (memory log : List (LabelledD L)) → self.commands ≤ length log → Does P.Policy.faithful policy.old policy.new memory memory stack.old stack.new log log (starting (placed self) depth) result (λ table setup. tried L.Label.kind table setup (Push number)) }
     {
-        if free.is_empty() {
+        if depth >= stack.len() {
             return Err(Stop::StackFull);
         }
         let verdict = ask(
             policy,
             Request {
                 a: number.label,
-                ..self.request(Opcode::Push)
+                ..request(self.pc_label, Opcode::Push)
             },
         )?;
-        free[0] = Entry::Number(relabelled(number, verdict.result));
-        Ok(self.next(verdict.pc, used.len() + 1))
+        stack[depth] = Entry::Number(relabelled(number, verdict.result));
+        Ok(self.next(verdict.pc, depth + 1))
     }
 
+    // This, bnz and jump begin alike: a part of their own for that would be the two calls that it is now.
     pub fn pop<P: Policy<L>>(self, used: &[Entry<L>], policy: &mut P) -> Result<Registers<L>, Stop>
-        ensures { OnStack P.Policy.faithful policy.old policy.new used.now used.now self result (λ table setup. tried L.Label.kind table setup Pop) }
+        ensures { OnStack P.Policy.faithful policy.old policy.new used.now used.now (placed self) result (λ table setup. tried L.Label.kind table setup Pop) }
     {
         let a = top_number(used)?;
         let verdict = ask(
             policy,
             Request {
                 a: a.label,
-                ..self.request(Opcode::Pop)
+                ..request(self.pc_label, Opcode::Pop)
             },
         )?;
         Ok(self.next(verdict.pc, used.len() - 1))
     }
 
-    pub fn noop<P: Policy<L>>(self, used: &[Entry<L>], policy: &mut P) -> Result<Registers<L>, Stop>
-        ensures { OnStack P.Policy.faithful policy.old policy.new used.now used.now self result (λ table setup. tried L.Label.kind table setup Noop) }
+    pub fn noop<P: Policy<L>>(self, depth: usize, policy: &mut P) -> Result<Registers<L>, Stop>
+        ensures { (stack : List (EntryD L)) → depth ≤ length stack → (memory log : List (LabelledD L)) → self.commands ≤ length log → Does P.Policy.faithful policy.old policy.new memory memory stack stack log log (starting (placed self) depth) result (λ table setup. tried L.Label.kind table setup Noop) }
     {
-        let verdict = ask(policy, self.request(Opcode::Noop))?;
-        Ok(self.next(verdict.pc, used.len()))
+        let verdict = ask(policy, request(self.pc_label, Opcode::Noop))?;
+        Ok(self.next(verdict.pc, depth))
     }
 
     // An operation that makes one number of two by a rule, which is given the lower one first.
@@ -118,7 +118,7 @@ impl<L: Label> Fetched<L> {
         policy: &mut P,
     ) -> Result<Registers<L>, Stop>
         requires { F.IsAlwaysCallable rule }
-        ensures { (applied : ℤ → ℤ → ℤ) → ((b a r : ℤ) → FitsSigned w32 b → FitsSigned w32 a → F.post rule b a r → r ≡ applied b a) → OnStack P.Policy.faithful policy.old policy.new used.old used.new self result (λ table setup. arithmetic_on L.Label.kind table setup op applied) }
+        ensures { (applied : ℤ → ℤ → ℤ) → ((b a r : ℤ) → FitsSigned w32 b → FitsSigned w32 a → F.post rule b a r → r ≡ applied b a) → OnStack P.Policy.faithful policy.old policy.new used.old used.new (placed self) result (λ table setup. arithmetic_on L.Label.kind table setup op applied) }
     {
         let a = top_number(used)?;
         let depth = used.len() - 1;
@@ -128,9 +128,10 @@ impl<L: Label> Fetched<L> {
             Request {
                 a: a.label,
                 b: b.label,
-                ..self.request(op)
+                ..request(self.pc_label, op)
             },
         )?;
+        // By its index: the entry is there, and `last_mut` would ask again whether it is.
         used[depth - 1] = Entry::Number(Labelled {
             value: rule(b.value, a.value),
             label: verdict.result,
@@ -144,7 +145,7 @@ impl<L: Label> Fetched<L> {
         used: &mut [Entry<L>],
         policy: &mut P,
     ) -> Result<Registers<L>, Stop>
-        ensures { (free : List (EntryD L)) (log : List (LabelledD L)) → self.commands ≤ length log → Does P.Policy.faithful policy.old policy.new memory.now memory.now (used.old ++ free) (used.new ++ free) log log (starting self (length used.old)) result (λ table setup. tried L.Label.kind table setup Load) }
+        ensures { (free : List (EntryD L)) (log : List (LabelledD L)) → self.commands ≤ length log → Does P.Policy.faithful policy.old policy.new memory.now memory.now (used.old ++ free) (used.new ++ free) log log (starting (placed self) (length used.old)) result (λ table setup. tried L.Label.kind table setup Load) }
     {
         let a = top_number(used)?;
         let Found { element: cell, .. } = find_cell(memory, a)?;
@@ -153,10 +154,11 @@ impl<L: Label> Fetched<L> {
             Request {
                 a: a.label,
                 b: cell.label,
-                ..self.request(Opcode::Load)
+                ..request(self.pc_label, Opcode::Load)
             },
         )?;
         let depth = used.len();
+        // By its index: the entry is there, and `last_mut` would ask again whether it is.
         used[depth - 1] = Entry::Number(relabelled(cell, verdict.result));
         Ok(self.next(verdict.pc, depth))
     }
@@ -167,7 +169,7 @@ impl<L: Label> Fetched<L> {
         used: &[Entry<L>],
         policy: &mut P,
     ) -> Result<Registers<L>, Stop>
-        ensures { OnMemory P.Policy.faithful policy.old policy.new memory.old memory.new used.now self result (λ table setup. tried L.Label.kind table setup Store) }
+        ensures { OnMemory P.Policy.faithful policy.old policy.new memory.old memory.new used.now (placed self) result (λ table setup. tried L.Label.kind table setup Store) }
     {
         let a = top_number(used)?;
         let depth = used.len() - 1;
@@ -182,25 +184,11 @@ impl<L: Label> Fetched<L> {
                 a: a.label,
                 b: b.label,
                 c: cell.label,
-                ..self.request(Opcode::Store)
+                ..request(self.pc_label, Opcode::Store)
             },
         )?;
         memory[index] = relabelled(b, verdict.result);
         Ok(self.next(verdict.pc, depth - 1))
-    }
-
-    pub fn jump<P: Policy<L>>(self, used: &[Entry<L>], policy: &mut P) -> Result<Registers<L>, Stop>
-        ensures { OnStack P.Policy.faithful policy.old policy.new used.now used.now self result (λ table setup. tried L.Label.kind table setup Jump) }
-    {
-        let a = top_number(used)?;
-        let verdict = ask(
-            policy,
-            Request {
-                a: a.label,
-                ..self.request(Opcode::Jump)
-            },
-        )?;
-        Ok(self.goto(i64::from(a.value), verdict.pc, used.len() - 1))
     }
 
     pub fn bnz<P: Policy<L>>(
@@ -209,14 +197,14 @@ impl<L: Label> Fetched<L> {
         used: &[Entry<L>],
         policy: &mut P,
     ) -> Result<Registers<L>, Stop>
-        ensures { OnStack P.Policy.faithful policy.old policy.new used.now used.now self result (λ table setup. tried L.Label.kind table setup (Bnz by)) }
+        ensures { OnStack P.Policy.faithful policy.old policy.new used.now used.now (placed self) result (λ table setup. tried L.Label.kind table setup (Bnz by)) }
     {
         let a = top_number(used)?;
         let verdict = ask(
             policy,
             Request {
                 a: a.label,
-                ..self.request(Opcode::Bnz)
+                ..request(self.pc_label, Opcode::Bnz)
             },
         )?;
         Ok(self.goto(self.pc.branch(by, a.value), verdict.pc, used.len() - 1))
@@ -229,7 +217,7 @@ impl<L: Label> Fetched<L> {
         used: &mut [Entry<L>],
         policy: &mut P,
     ) -> Result<Registers<L>, Stop>
-        ensures { OnStack P.Policy.faithful policy.old policy.new used.old used.new self result (λ table setup. tried L.Label.kind table setup (Call count due)) }
+        ensures { OnStack P.Policy.faithful policy.old policy.new used.old used.new (placed self) result (λ table setup. tried L.Label.kind table setup (Call count due)) }
     {
         let a = top_number(used)?;
         let depth = used.len();
@@ -241,7 +229,7 @@ impl<L: Label> Fetched<L> {
             policy,
             Request {
                 a: a.label,
-                ..self.request(Opcode::Call)
+                ..request(self.pc_label, Opcode::Call)
             },
         )?;
         let frame = Frame {
@@ -251,6 +239,56 @@ impl<L: Label> Fetched<L> {
         };
         insert_under(used, arguments, Entry::Frame(frame));
         Ok(self.goto(i64::from(a.value), verdict.pc, depth))
+    }
+
+    // The log is lent whole, with how many of its commands are in use, since it has a fixed length.
+    pub fn output<P: Policy<L>>(
+        self,
+        used: &[Entry<L>],
+        log: &mut [Labelled<L>],
+        policy: &mut P,
+    ) -> Result<Registers<L>, Stop>
+        ensures { (free : List (EntryD L)) (memory : List (LabelledD L)) → self.commands ≤ length log.old → Does P.Policy.faithful policy.old policy.new memory memory (used.now ++ free) (used.now ++ free) log.old log.new (starting (placed self) (length used.now)) result (λ table setup. tried L.Label.kind table setup Output) }
+    {
+        let a = top_number(used)?;
+        if self.commands >= log.len() {
+            return Err(Stop::LogFull);
+        }
+        let verdict = ask(
+            policy,
+            Request {
+                a: a.label,
+                ..request(self.pc_label, Opcode::Output)
+            },
+        )?;
+        log[self.commands] = relabelled(a, verdict.result);
+        let logged = Fetched {
+            commands: self.commands + 1,
+            ..self
+        };
+        Ok(logged.next(verdict.pc, used.len() - 1))
+    }
+}
+
+// The operations that go to another place whatever this one is.
+impl<L: Label> Registers<L> {
+    pub fn jump<P: Policy<L>>(self, used: &[Entry<L>], policy: &mut P) -> Result<Registers<L>, Stop>
+        ensures { OnStack P.Policy.faithful policy.old policy.new used.now used.now self result (λ table setup. tried L.Label.kind table setup Jump) }
+    {
+        let a = top_number(used)?;
+        let verdict = ask(
+            policy,
+            Request {
+                a: a.label,
+                ..request(self.pc_label, Opcode::Jump)
+            },
+        )?;
+        Ok(Registers {
+            pc: i64::from(a.value),
+            pc_label: verdict.pc,
+            depth: used.len() - 1,
+            ..self
+        })
     }
 
     pub fn return_to_frame<P: Policy<L>>(
@@ -287,11 +325,16 @@ impl<L: Label> Fetched<L> {
             Request {
                 a: frame.label,
                 b: a.label,
-                ..self.request(Opcode::Return)
+                ..request(self.pc_label, Opcode::Return)
             },
         )?;
         used[index] = Entry::Number(relabelled(a, verdict.result));
-        Ok(self.goto(frame.place, verdict.pc, index + 1))
+        Ok(Registers {
+            pc: frame.place,
+            pc_label: verdict.pc,
+            depth: index + 1,
+            ..self
+        })
     }
 
     fn return_nothing<P: Policy<L>>(
@@ -306,37 +349,14 @@ impl<L: Label> Fetched<L> {
             policy,
             Request {
                 a: frame.label,
-                ..self.request(Opcode::Return)
+                ..request(self.pc_label, Opcode::Return)
             },
         )?;
-        Ok(self.goto(frame.place, verdict.pc, index))
-    }
-
-    // The log is lent whole, with how many of its commands are in use, since it has a fixed length.
-    pub fn output<P: Policy<L>>(
-        self,
-        used: &[Entry<L>],
-        log: &mut [Labelled<L>],
-        policy: &mut P,
-    ) -> Result<Registers<L>, Stop>
-        ensures { (free : List (EntryD L)) (memory : List (LabelledD L)) → self.commands ≤ length log.old → Does P.Policy.faithful policy.old policy.new memory memory (used.now ++ free) (used.now ++ free) log.old log.new (starting self (length used.now)) result (λ table setup. tried L.Label.kind table setup Output) }
-    {
-        let a = top_number(used)?;
-        if self.commands >= log.len() {
-            return Err(Stop::LogFull);
-        }
-        let verdict = ask(
-            policy,
-            Request {
-                a: a.label,
-                ..self.request(Opcode::Output)
-            },
-        )?;
-        log[self.commands] = relabelled(a, verdict.result);
-        let logged = Fetched {
-            commands: self.commands + 1,
+        Ok(Registers {
+            pc: frame.place,
+            pc_label: verdict.pc,
+            depth: index,
             ..self
-        };
-        Ok(logged.next(verdict.pc, used.len() - 1))
+        })
     }
 }

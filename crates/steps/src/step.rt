@@ -54,14 +54,14 @@ impl<L: Label> Registers<L> {
             pc_label: self.pc_label,
             commands: self.commands,
         };
-        let (used, free) = stack.split_at_mut(self.depth);
+        let (used, _) = stack.split_at_mut(self.depth);
         // The match is the interpreter: each operation reaches other parts, so a table of functions would have to lend all to each.
         // The rules are closures, since a proof knows nothing of what `i32::wrapping_add` gives when it is passed by that name.
         let done = match op {
             Operation::Halt => return self.halted(),
-            Operation::Push(number) => fetched.push(number, used, free, policy),
+            Operation::Push(number) => fetched.push(number, self.depth, stack, policy),
             Operation::Pop => fetched.pop(used, policy),
-            Operation::Noop => fetched.noop(used, policy),
+            Operation::Noop => fetched.noop(self.depth, policy),
             Operation::Add => {
                 fetched.arithmetic(Opcode::Add, |b, a| b.wrapping_add(a), used, policy)
             }
@@ -73,10 +73,10 @@ impl<L: Label> Registers<L> {
             }
             Operation::Load => fetched.load(memory, used, policy),
             Operation::Store => fetched.store(memory, used, policy),
-            Operation::Jump => fetched.jump(used, policy),
+            Operation::Jump => self.jump(used, policy),
             Operation::Bnz(by) => fetched.bnz(by, used, policy),
             Operation::Call { count, due } => fetched.call(count, due, used, policy),
-            Operation::Return => fetched.return_to_frame(used, policy),
+            Operation::Return => self.return_to_frame(used, policy),
             Operation::Output => fetched.output(used, log, policy),
         };
         done.map(Outcome::Done)

@@ -1,4 +1,5 @@
 use Rattle.std.proofs.Common.{◌-◌, ◌∷◌, length, refl, sym, ap, ◌∙◌, arith, Ok, Err, w32, SFits, rules, length-set}
+use Rattle.steps.specs.Operations.{placed}
 use Rattle.steps.proofs.Doing.{asked, used_hands_on, used_does, done_stack}
 use Rattle.steps.proofs.Stacks.{newest_put, takes_first}
 use Rattle.steps.specs.Walks.{newest}
@@ -9,13 +10,13 @@ use Rattle.steps.proofs.registers.Fetched.arithmetic.Goals as goal
 
 pub returns-in_err-a : goal.returns-in_err-a
 returns-in_err-a g c applied given free memory log room =
-    used_hands_on c.args.self c.args.used.now free c.from_residual.ensures.1 (λ table true. true) (λ table true setup _. c.in_err-a.ensures _)
+    used_hands_on (placed c.args.self) c.args.used.now free c.from_residual.ensures.1 (λ table true. true) (λ table true setup _. c.in_err-a.ensures _)
 
 pub returns-in_err-b : goal.returns-in_err-b
 returns-in_err-b g c applied given free memory log room =
     let used = c.args.used.now in
     let b = takes_first used (length used - 1) (Err c.in_err-b.field-0.0) (omega arith) c.in_err-b.ensures in
-    used_hands_on c.args.self c.args.used.now free c.from_residual-in_err-b.ensures.1 (λ table true. true)
+    used_hands_on (placed c.args.self) c.args.used.now free c.from_residual-in_err-b.ensures.1 (λ table true. true)
     (λ table true setup _. c.in_ok-a.ensures.1 _ ∙ b _)
 
 pub returns-in_err-verdict : goal.returns-in_err-verdict
@@ -23,7 +24,7 @@ returns-in_err-verdict g c applied given free memory log room =
     let used = c.args.used.now in
     let b = takes_first used (length used - 1) (Ok c.in_ok-b.b) (omega arith) c.in_ok-b.ensures in
     let asks = asked (λ q. record q { a = c.in_ok-a.a.label; b = c.in_ok-b.b.label }) (Err c.in_err-verdict.field-0.0) c.request.ensures c.in_err-verdict.ensures in
-    used_hands_on c.args.self c.args.used.now free c.from_residual-in_err-verdict.ensures.1 asks.still
+    used_hands_on (placed c.args.self) c.args.used.now free c.from_residual-in_err-verdict.ensures.1 asks.still
     (λ table true setup _. c.in_ok-a.ensures.1 _ ∙ b.1 _ ∙ asks.holds table true _)
 
 pub returns : goal.returns
@@ -39,7 +40,7 @@ returns g c applied given free memory log room =
     let gave = rw (to_z-of_z w32 c.in_ok-b.b.value fits_b, to_z-of_z w32 c.in_ok-a.a.value fits_a) at c.rule.ensures in
     let value = to_z-of_z w32 c.rule.result fits ∙ given c.in_ok-b.b.value c.in_ok-a.a.value c.rule.result fits_b fits_a gave in
     let written = newest_put used (n - 1) (n - 1 - 1) refl (omega arith) (omega arith) in
-    used_does c.args.self used free _ c.next.ensures asks.still (length-set _ _ _) (omega arith) room
+    used_does (placed c.args.self) used free _ c.next.ensures asks.still (length-set _ _ _) (omega arith) room
     (λ table true setup _.
     done_stack (written ∙ ap (λ v. Number (v at c.in_ok-verdict.verdict.result) ∷ newest (n - 1 - 1) used) value)
     ∙ sym (a.1 _ ∙ b.1 _ ∙ asks.holds table true _))

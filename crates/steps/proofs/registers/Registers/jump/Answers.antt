@@ -1,7 +1,7 @@
 use Rattle.std.proofs.Common.{◌≡◌, refl, sym, ◌∙◌, arith, Ok, Err, w32, w64, SFits, to_z, of_z, rules}
 use Rattle.steps.proofs.Doing.{asked, used_hands_on, used_does, done_place}
 use Rattle.std.proofs.lemmas.Int.{ints}
-use Rattle.steps.proofs.registers.Fetched.jump.Goals as goal
+use Rattle.steps.proofs.registers.Registers.jump.Goals as goal
 
 pub returns-in_err-a : goal.returns-in_err-a
 returns-in_err-a g c free memory log room =
@@ -19,5 +19,5 @@ returns g c free memory log room =
     let fits : SFits w32 c.in_ok-a.a.value = search rules in
     let same : to_z w64 (of_z w64 c.from.result) ≡ c.in_ok-a.a.value = omega (arith, ints) in
     let a = c.in_ok-a.ensures in
-    used_does c.args.self c.args.used.now free _ c.goto.ensures asks.still refl (omega arith) room
+    used_does c.args.self c.args.used.now free _ refl asks.still refl (omega arith) room
     (λ table true setup _. done_place same ∙ sym (a.1 _ ∙ asks.holds table true _))

@@ -4,7 +4,7 @@ use Rattle.steps.proofs.Stacks.{newest_put}
 use Rattle.steps.specs.Walks.{newest}
 use Rattle.machine.specs.declared.parts.Entry.TheVariants.{Number}
 use Rattle.std.proofs.lemmas.Int.{to_z-of_z}
-use Rattle.steps.proofs.registers.Fetched.return_number.Goals as goal
+use Rattle.steps.proofs.registers.Registers.return_number.Goals as goal
 
 pub returns-in_err-a : goal.returns-in_err-a
 returns-in_err-a g c free memory log room =
@@ -23,7 +23,7 @@ returns g c free memory log room =
     let used = c.args.used.now in
     let index = c.args.index in
     let written = newest_put used (index + 1) index refl refl c.requires in
-    used_does c.args.self c.args.used.now free _ c.goto.ensures asks.still (length-set _ _ _) (omega arith) room
+    used_does c.args.self c.args.used.now free _ refl asks.still (length-set _ _ _) (omega arith) room
     (λ table true setup _.
     done_place (to_z-of_z w64 c.args.frame.place fits)
     ∙ done_stack (written ∙ ap (λ v. Number v ∷ newest index used) c.relabelled.ensures)

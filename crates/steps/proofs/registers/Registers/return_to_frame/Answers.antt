@@ -3,7 +3,7 @@ use Rattle.machine.specs.Steps.{return_to}
 use Rattle.steps.specs.Operations.{round, starting}
 use Rattle.steps.specs.Walks.{newest}
 use Rattle.steps.proofs.Doing.{used_hands_on, used_defined_as}
-use Rattle.steps.proofs.registers.Fetched.return_to_frame.Goals as goal
+use Rattle.steps.proofs.registers.Registers.return_to_frame.Goals as goal
 
 pub returns-in_err-index : goal.returns-in_err-index
 returns-in_err-index g c free memory log room =
