@@ -24,6 +24,9 @@ module _ {L : Type 0} where
   pub done_memory : {pc : ℤ} {label : L} {stack : List (Entry L)} {memory memory' commands : List (Labelled L)} → memory ≡ memory' → at pc label stack memory commands ≡ at pc label stack memory' commands
   done_memory {pc} {label} {stack} {memory} {memory'} {commands} same = ap (λ m. at pc label stack m commands) same
 
+  pub done_commands : {pc : ℤ} {label : L} {stack : List (Entry L)} {memory commands commands' : List (Labelled L)} → commands ≡ commands' → at pc label stack memory commands ≡ at pc label stack memory commands'
+  done_commands {pc} {label} {stack} {memory} {commands} {commands'} same = ap (λ g. at pc label stack memory g) same
+
   pub done_place : {pc pc' : ℤ} {label : L} {stack : List (Entry L)} {memory commands : List (Labelled L)} → pc ≡ pc' → at pc label stack memory commands ≡ at pc' label stack memory commands
   done_place {pc} {pc'} {label} {stack} {memory} {commands} same = ap (λ p. at p label stack memory commands) same
 

@@ -6,6 +6,14 @@ use Rattle.steps.specs.Walks.{newest}
 use Rattle.machine.specs.declared.parts.Entry.TheVariants.{Number}
 use Rattle.steps.proofs.registers.Fetched.load.Goals as goal
 
+pub returns-in_err-a : goal.returns-in_err-a
+returns-in_err-a g c free log room =
+    used_hands_on (placed c.args.self) c.args.used.now free c.from_residual.ensures.1 (λ table true. true) (λ table true setup _. c.in_err-a.ensures _)
+
+pub returns-in_err-cell : goal.returns-in_err-cell
+returns-in_err-cell g c free log room =
+    used_hands_on (placed c.args.self) c.args.used.now free c.from_residual-in_err-cell.ensures.1 (λ table true. true) (λ table true setup _. c.in_ok-a.ensures.1 _ ∙ c.in_err-cell.ensures _)
+
 pub returns-in_err-verdict : goal.returns-in_err-verdict
 returns-in_err-verdict g c free log room =
     let asks = asked (λ q. record q { a = c.in_ok-a.a.label; b = c.in_ok-cell.field-0.element.label }) (Err c.in_err-verdict.field-0.0) c.request.ensures c.in_err-verdict.ensures in

@@ -5,6 +5,10 @@ use Rattle.steps.proofs.Stacks.{takes_first}
 use Rattle.machine.specs.Steps.{◌at◌, set_place}
 use Rattle.steps.proofs.registers.Fetched.store.Goals as goal
 
+pub returns-in_err-a : goal.returns-in_err-a
+returns-in_err-a g c free log room =
+    used_hands_on (placed c.args.self) c.args.used.now free c.from_residual.ensures.1 (λ table true. true) (λ table true setup _. c.in_err-a.ensures _)
+
 pub returns-in_err-b : goal.returns-in_err-b
 returns-in_err-b g c free log room =
     let used = c.args.used.now in
