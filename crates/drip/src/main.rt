@@ -8,7 +8,7 @@ mod questions;
 
 use command::Command;
 use failure::Failure;
-use questions::Session;
+use questions::RulesRun;
 use std::process::ExitCode;
 use std::{env, io};
 
@@ -53,7 +53,7 @@ fn run(rt: &HostRuntime) -> Result<(), Failure> {
             rt.print(USAGE)?;
             Ok(())
         }
-        Ok(Command::Rules(asked)) => Session::new(rt, asked).answer(),
+        Ok(Command::Rules(asked)) => RulesRun::new(rt, asked).answer(),
         Err(misuse) => {
             eprintln!(rt; "{misuse}")?;
             Err(Failure::Told)

@@ -48,14 +48,14 @@ impl<P: Policy<L>, L: Label> Faithful<P, L> {
 
 // One run of `drip rules`: where it reads and writes, and what is asked.
 #[derive(Clone, Copy)]
-pub struct Session<'a> {
+pub struct RulesRun<'a> {
     rt: &'a HostRuntime,
     asked: Rules<'a>,
 }
 
-impl<'a> Session<'a> {
-    pub fn new(rt: &'a HostRuntime, asked: Rules<'a>) -> Session<'a> {
-        Session { rt, asked }
+impl<'a> RulesRun<'a> {
+    pub fn new(rt: &'a HostRuntime, asked: Rules<'a>) -> RulesRun<'a> {
+        RulesRun { rt, asked }
     }
 
     // Answers what is asked, with labels of the kind that is asked for. A kind of label is a type, and so is a policy below, so each

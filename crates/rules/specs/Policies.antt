@@ -39,7 +39,8 @@ pub record CachedAsked {P L : Type 0} (asked : P → Request L → Option (Verdi
   pub miss : ((a : Option (Verdict L)) → before.last ≢ memory request a) → asked before.below request answer after.below
 
 -- A policy's truth and effect, as code sees them that knows only the trait, are the ones that are named: it is true to the same tables,
--- and asking it does nothing else.
+-- and asking it does the same.
 pub record Named {P L : Type 0} (faithful named_faithful : P → Table L → Type 0) (asked named_asked : P → Request L → Option (Verdict L) → P → Type 0) : Type 0 where
   pub truth : (policy : P) (t : Table L) → (faithful policy t → named_faithful policy t) × (named_faithful policy t → faithful policy t)
-  pub effect : (before : P) (request : Request L) (answer : Option (Verdict L)) (after : P) → asked before request answer after → named_asked before request answer after
+  pub effect : (before : P) (request : Request L) (answer : Option (Verdict L)) (after : P)
+      → (asked before request answer after → named_asked before request answer after) × (named_asked before request answer after → asked before request answer after)

@@ -87,7 +87,7 @@ impl<L: Label> Fetched<L> {
         Ok(self.next(verdict.pc, depth + 1))
     }
 
-    // This, bnz and jump begin alike: a part of their own for that would be the two calls that it is now.
+    // pop, bnz and jump begin with the same two calls. A function for them would be no shorter.
     pub fn pop<P: Policy<L>>(self, used: &[Entry<L>], policy: &mut P) -> Result<Registers<L>, Stop>
         ensures { OnStack P.Policy.faithful policy.old policy.new used.now used.now (placed self) result (λ table setup. tried L.Label.kind table setup Pop) }
     {
