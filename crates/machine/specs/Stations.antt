@@ -52,6 +52,15 @@ abbrev pub fitting : {A : Type 0} → Option Part → (Part → A) → A → A
 fitting None else then = then
 fitting (Some part) else then = else part
 
+-- The first of four parts of these lengths that is not as long as when the station was made.
+abbrev pub not_as_made : Sizes → Sizes → Option Part
+not_as_made sizes lens = first_wrong
+    ((part.Program, (lens.program == sizes.program))
+    ∷ (part.Memory, (lens.memory == sizes.memory))
+    ∷ (part.Stack, (lens.stack == sizes.stack))
+    ∷ (part.Log, (lens.log == sizes.log))
+    ∷ [])
+
 module _ {L : Type 0} where
   abbrev pub kept_by : Station L → Kept L
   kept_by (idle kept) = kept
@@ -102,12 +111,7 @@ module _ {L : Type 0} where
   misfit sizes (enter len cell v) = first_wrong ((part.Memory, (len == sizes.memory)) ∷ [])
   misfit sizes (look len cell clearance) = first_wrong ((part.Memory, (len == sizes.memory)) ∷ [])
   misfit sizes start = None
-  misfit sizes (go lens table fuel) = first_wrong
-      ((part.Program, (lens.program == sizes.program))
-      ∷ (part.Memory, (lens.memory == sizes.memory))
-      ∷ (part.Stack, (lens.stack == sizes.stack))
-      ∷ (part.Log, (lens.log == sizes.log))
-      ∷ [])
+  misfit sizes (go lens table fuel) = not_as_made sizes lens
   misfit sizes (next_command len from clearance) = first_wrong ((part.Log, (len == sizes.log)) ∷ [])
 
   -- Enter writes a cell whatever label was there.

@@ -1,0 +1,4 @@
+pub mod Fitting
+pub mod Cells
+pub mod Runs
+pub mod Going

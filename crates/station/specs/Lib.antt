@@ -1,0 +1,4 @@
+pub mod Lengths
+pub mod Views
+pub mod Calls
+pub mod Goes

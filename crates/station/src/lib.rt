@@ -1,0 +1,11 @@
+// A station and its calls: make, enter, look, start, go and the question for the next command.
+#![tactic(auto)]
+
+mod commands;
+mod idle;
+mod lengths;
+mod running;
+mod states;
+
+pub use running::{Gone, Refused};
+pub use states::{Idle, Running, Shut, Station};

@@ -1,0 +1,149 @@
+// Goes: steps of a running station until its round finishes, is stopped or has no fuel left.
+use crate::lengths::{check_lengths, sizes_of};
+use crate::states::{Idle, Running, Shut, Station};
+use labels::Label;
+use machine::{Entry, Labelled, Operation, Refusal, Stop};
+use rules::Policy;
+use std::marker::PhantomData;
+use steps::{Outcome, Registers};
+
+// What a go that was not refused leaves: the station, idle, running or shut, and the steps that it took.
+#[derive(Debug, Drop)]
+pub struct Gone<L> {
+    pub station: Station<L>,
+    pub steps: u32,
+}
+
+// A go that was refused: why, and the running station, as it was.
+#[derive(Debug, Drop)]
+pub struct Refused<L> {
+    pub why: Refusal,
+    pub station: Running<L>,
+}
+
+// Why a go takes no further step.
+#[derive(Clone, Copy, Debug, PartialEq, Eq)]
+pub enum End {
+    Finished,
+    OutOfFuel,
+    Stopped(Stop),
+}
+
+// What the steps of a go came to, and how many there were.
+#[derive(Clone, Copy, Debug, PartialEq, Eq)]
+pub struct Ran {
+    pub end: End,
+    pub steps: u32,
+}
+
+impl<L: Label> Running<L> {
+    ghost use Rattle.std.specs.Prelude.{◌≡◌, List};
+    ghost use Rattle.station.specs.Lengths.{lengths};
+    ghost use Rattle.station.specs.Goes.{Goes, Turns, Runs, ended};
+    ghost use Rattle.station.specs.Views.{station_with, made_sizes};
+    ghost use Rattle.steps.specs.Operations.{round};
+    ghost use Rattle.machine.specs.declared.parts.Entry.{Entry as EntryD};
+    ghost use Rattle.machine.specs.declared.parts.Labelled.{Labelled as LabelledD};
+
+    // Runs with so much fuel, if every part is as long as when the station was made. Refused, it gives the station back.
+    pub fn go<P: Policy<L>>(
+        self,
+        program: &[Operation<L>],
+        memory: &mut [Labelled<L>],
+        stack: &mut [Entry<L>],
+        log: &mut [Labelled<L>],
+        policy: &mut P,
+        fuel: u32,
+    ) -> Result<Gone<L>, Refused<L>>
+        ensures { Goes L.Label.kind P.Policy.faithful policy.old policy.new program.now memory.old memory.new stack.old stack.new log.old log.new fuel self result }
+    {
+        if let Err(why) = check_lengths(sizes_of(program, memory, stack, log), self.sizes) {
+            return Err(Refused { why, station: self });
+        }
+        let mut station = self;
+        let Ran { end, steps } = station.run(program, memory, stack, log, policy, fuel);
+        Ok(Gone {
+            station: station.settle(end),
+            steps,
+        })
+    }
+
+    // Takes steps until one comes to an end.
+    fn run<P: Policy<L>>(
+        &mut self,
+        program: &[Operation<L>],
+        memory: &mut [Labelled<L>],
+        stack: &mut [Entry<L>],
+        log: &mut [Labelled<L>],
+        policy: &mut P,
+        fuel: u32,
+    ) -> Ran
+        requires as_made { self.old.sizes ≡ lengths program.now memory.old stack.old log.old }
+        ensures runs { Runs L.Label.kind P.Policy.faithful policy.old policy.new program.now memory.old memory.new stack.old stack.new log.old log.new fuel self.old self.new result }
+        ensures sizes { self.new.sizes ≡ self.old.sizes }
+    {
+        let mut left = fuel;
+        loop {
+            if let Some(end) = self.step(program, memory, stack, log, policy, left) {
+                return Ran {
+                    end,
+                    steps: fuel - left,
+                };
+            }
+            left -= 1;
+        }
+    }
+
+    // Takes one step, which writes the record whole, or comes to an end and leaves all as it was.
+    fn step<P: Policy<L>>(
+        &mut self,
+        program: &[Operation<L>],
+        memory: &mut [Labelled<L>],
+        stack: &mut [Entry<L>],
+        log: &mut [Labelled<L>],
+        policy: &mut P,
+        fuel: u32,
+    ) -> Option<End>
+        requires as_made { self.old.sizes ≡ lengths program.now memory.old stack.old log.old }
+        ensures turns { Turns L.Label.kind P.Policy.faithful policy.old policy.new program.now memory.old memory.new stack.old stack.new log.old log.new fuel self.old self.new result }
+        ensures sizes { self.new.sizes ≡ self.old.sizes }
+    {
+        match self
+            .registers
+            .step(program, memory, stack, log, policy, fuel)
+        {
+            Ok(Outcome::Done(registers)) => {
+                *self = Running {
+                    sizes: self.sizes,
+                    registers,
+                };
+                None
+            }
+            Ok(Outcome::Finished) => Some(End::Finished),
+            Ok(Outcome::Later) => Some(End::OutOfFuel),
+            Err(stop) => Some(End::Stopped(stop)),
+        }
+    }
+
+    // The station after a go that ended so.
+    fn settle(self, end: End) -> Station<L>
+        ensures settled { (memory log : List (LabelledD L)) (stack : List (EntryD L)) → station_with result memory stack log ≡ ended end (round self.registers memory stack log) }
+        ensures sizes { made_sizes result ≡ self.sizes }
+    {
+        match end {
+            End::Finished => Station::Idle(Idle {
+                sizes: self.sizes,
+                commands: self.registers.commands,
+                labels: PhantomData,
+            }),
+            End::OutOfFuel => Station::Running(self),
+            End::Stopped(stop) => Station::Shut(Shut {
+                sizes: self.sizes,
+                commands: self.registers.commands,
+                stop,
+                place: self.registers.pc,
+                labels: PhantomData,
+            }),
+        }
+    }
+}

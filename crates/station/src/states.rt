@@ -1,0 +1,112 @@
+// The states of a station. Each is a type of its own that is moved from call to call, so a call that a state does not take does
+// not compile. A station holds none of its four parts, only how long they were when it was made; they are lent at each call.
+ghost use Rattle.std.specs.Prelude.{◌≡◌, ◌≤◌, None};
+ghost use Rattle.machine.specs.Numbers.{outside_limits};
+
+use machine::{Sizes, Stop};
+use std::marker::PhantomData;
+use steps::Registers;
+
+// At rest: it takes enters and looks, and a start.
+#[derive(Debug, Drop)]
+pub struct Idle<L> {
+    pub(crate) sizes: Sizes,
+    // how many commands of the log are in use
+    pub(crate) commands: usize,
+    pub(crate) labels: PhantomData<L>,
+    pub ghost within_limits: { outside_limits sizes ≡ None },
+    pub ghost log_holds: { commands ≤ sizes.log },
+}
+
+// In a round: it takes goes.
+#[derive(Debug, Drop)]
+pub struct Running<L> {
+    pub(crate) sizes: Sizes,
+    pub(crate) registers: Registers<L>,
+    pub ghost within_limits: { outside_limits sizes ≡ None },
+    pub ghost stack_holds: { registers.depth ≤ sizes.stack },
+    pub ghost log_holds: { registers.commands ≤ sizes.log },
+}
+
+// Shut by a stop, for good: it takes only the question for the next command.
+#[derive(Debug, Drop)]
+pub struct Shut<L> {
+    pub(crate) sizes: Sizes,
+    pub(crate) commands: usize,
+    pub(crate) stop: Stop,
+    pub(crate) place: i64,
+    pub(crate) labels: PhantomData<L>,
+    pub ghost within_limits: { outside_limits sizes ≡ None },
+    pub ghost log_holds: { commands ≤ sizes.log },
+}
+
+// A station in any state.
+#[derive(Debug, Drop)]
+pub enum Station<L> {
+    Idle(Idle<L>),
+    Running(Running<L>),
+    Shut(Shut<L>),
+}
+
+impl<L> Idle<L> {
+    ghost use Rattle.std.specs.Prelude.{◌≡◌};
+
+    // How many commands there are in the log.
+    pub fn commands(&self) -> usize
+        ensures { result ≡ self.now.commands }
+    {
+        self.commands
+    }
+}
+
+impl<L: Copy> Running<L> {
+    ghost use Rattle.std.specs.Prelude.{◌≡◌};
+
+    // The place and label of the program counter, and how many entries of the stack and commands of the log are in use.
+    pub fn registers(&self) -> Registers<L>
+        ensures { result ≡ self.now.registers }
+    {
+        self.registers
+    }
+}
+
+impl<L> Shut<L> {
+    ghost use Rattle.std.specs.Prelude.{◌≡◌};
+
+    // How many commands there are in the log.
+    pub fn commands(&self) -> usize
+        ensures { result ≡ self.now.commands }
+    {
+        self.commands
+    }
+
+    // The stop that shut it.
+    pub fn stop(&self) -> Stop
+        ensures { result ≡ self.now.stop }
+    {
+        self.stop
+    }
+
+    // Where the program counter was.
+    pub fn place(&self) -> i64
+        ensures { result ≡ self.now.place }
+    {
+        self.place
+    }
+}
+
+impl<L> Station<L> {
+    ghost use Rattle.std.specs.Prelude.{◌≡◌};
+    ghost use Rattle.station.specs.Views.{in_log};
+
+    // How many commands there are in the log.
+    pub fn commands(&self) -> usize
+        ensures { result ≡ in_log self.now }
+    {
+        match self {
+            Station::Idle(idle) => idle.commands,
+            Station::Running(running) => running.registers.commands,
+            Station::Shut(shut) => shut.commands,
+        }
+    }
+}
