@@ -1,4 +1,5 @@
 // What an idle station takes: making gives one, enters and looks leave it idle, a start begins a round.
+use crate::commands::next_command;
 use crate::lengths::{check_cell, check_length, check_limits, sizes_of};
 use crate::states::{Idle, Running};
 use labels::Label;
@@ -7,9 +8,11 @@ use std::marker::PhantomData;
 use steps::Registers;
 
 impl<L: Label> Idle<L> {
-    ghost use Rattle.std.specs.Prelude.{◌≡◌};
+    ghost use Rattle.std.specs.Prelude.{◌≡◌, List};
     ghost use Rattle.machine.specs.Observer.{Noninterference};
-    ghost use Rattle.station.specs.Calls.{Makes, Enters, Looks, Starts};
+    ghost use Rattle.machine.specs.declared.parts.Labelled.{Labelled as LabelledD};
+    ghost use Rattle.station.specs.Calls.{Makes, Enters, Looks, Starts, Asks};
+    ghost use Rattle.station.specs.Views.{idle_with};
 
     // Makes a station of its four parts, which stay as they are.
     pub fn make(
@@ -78,5 +81,24 @@ impl<L: Label> Idle<L> {
                 commands: self.commands,
             },
         }
+    }
+
+    // The place in the log of the first command, from a place on, that is at or below the clearance.
+    pub fn next_command(
+        &self,
+        log: &[Labelled<L>],
+        from: usize,
+        clearance: L,
+    ) -> Result<Option<usize>, Refusal>
+        ensures { (memory : List (LabelledD L)) → Asks L.Label.kind self.now.sizes (idle_with self.now memory log.now) log.now from clearance result }
+    {
+        next_command(self.sizes, self.commands, log, from, clearance)
+    }
+
+    // How many commands there are in the log.
+    pub fn commands(&self) -> usize
+        ensures { result ≡ self.now.commands }
+    {
+        self.commands
     }
 }

@@ -1,4 +1,5 @@
 // Goes: steps of a running station until its round finishes, is stopped or has no fuel left.
+use crate::commands::next_command;
 use crate::lengths::{check_lengths, sizes_of};
 use crate::states::{Idle, Running, Shut, Station};
 use labels::Label;
@@ -40,7 +41,8 @@ impl<L: Label> Running<L> {
     ghost use Rattle.std.specs.Prelude.{◌≡◌, List};
     ghost use Rattle.station.specs.Lengths.{lengths};
     ghost use Rattle.station.specs.Goes.{Goes, Turns, Runs, ended};
-    ghost use Rattle.station.specs.Views.{station_with, made_sizes};
+    ghost use Rattle.station.specs.Calls.{Asks};
+    ghost use Rattle.station.specs.Views.{running_with, station_with, made_sizes};
     ghost use Rattle.steps.specs.Operations.{round};
     ghost use Rattle.machine.specs.declared.parts.Entry.{Entry as EntryD};
     ghost use Rattle.machine.specs.declared.parts.Labelled.{Labelled as LabelledD};
@@ -66,6 +68,25 @@ impl<L: Label> Running<L> {
             station: station.settle(end),
             steps,
         })
+    }
+
+    // The place in the log of the first command, from a place on, that is at or below the clearance.
+    pub fn next_command(
+        &self,
+        log: &[Labelled<L>],
+        from: usize,
+        clearance: L,
+    ) -> Result<Option<usize>, Refusal>
+        ensures { (memory : List (LabelledD L)) (stack : List (EntryD L)) → Asks L.Label.kind self.now.sizes (running_with self.now memory stack log.now) log.now from clearance result }
+    {
+        next_command(self.sizes, self.registers.commands, log, from, clearance)
+    }
+
+    // The place and label of the program counter, and how many entries of the stack and commands of the log are in use.
+    pub fn registers(&self) -> Registers<L>
+        ensures { result ≡ self.now.registers }
+    {
+        self.registers
     }
 
     // Takes steps until one comes to an end.
