@@ -11,7 +11,8 @@ use Rattle.machine.specs.declared.parts.Labelled.{Labelled}
 use Rattle.machine.specs.declared.parts.Operation.{Operation}
 use Rattle.machine.specs.declared.parts.Sizes.{Sizes}
 use Rattle.steps.specs.Operations.{round}
-use Rattle.station.specs.Goes.{Goes, Runs, ended}
+use Rattle.station.specs.Goes.{Goes}
+use Rattle.station.specs.Turns.{Runs, ended}
 use Rattle.station.specs.Lengths.{lengths, checked}
 use Rattle.station.specs.Views.{made_as, station_with, made_sizes}
 use Rattle.station.specs.declared.running.Ran.{Ran}

@@ -4,7 +4,7 @@ use Rattle.labels.specs.Kind.{Kind}
 use Rattle.rules.specs.Tables.{Table}
 use Rattle.machine.specs.Stations.{Station, running, Gone, settled, run_steps}
 use Rattle.machine.specs.Steps.{Setup, Round, step}
-use Rattle.station.specs.Goes.{ended, came_to}
+use Rattle.station.specs.Turns.{ended, came_to}
 use Rattle.station.specs.declared.running.End.{End}
 use Rattle.station.specs.declared.running.End.TheVariants.{Finished, OutOfFuel, Stopped}
 

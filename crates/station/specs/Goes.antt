@@ -1,23 +1,18 @@
--- What a go in code answers and leaves, in the words of the definitions, and the steps that it is made of. Assumes nothing.
-use Rattle.std.specs.Prelude.{◌≡◌, ◌≢◌, ℕ, ◌<◌, List, length, None, Some, Ok, Err, Option, Result}
+-- What a go in code answers and leaves, in the words of the definitions. Assumes nothing.
+use Rattle.std.specs.Prelude.{◌≡◌, ℕ, List, None, Some, Ok, Err, Result}
 use Rattle.labels.specs.Kind.{Kind}
 use Rattle.rules.specs.Tables.{Table}
 use Rattle.machine.specs.Stations as stations
 use Rattle.machine.specs.Stations.{Station, idle, running, shut, Answer, took, refused, not_as_made, run_steps}
-use Rattle.machine.specs.Steps.{Setup, Round, Outcome, finished, later, stopped, done, step}
 use Rattle.machine.specs.declared.answers.Part.{Part}
 use Rattle.machine.specs.declared.answers.Refusal.TheVariants.{Length}
 use Rattle.machine.specs.declared.parts.Entry.{Entry}
 use Rattle.machine.specs.declared.parts.Labelled.{Labelled}
 use Rattle.machine.specs.declared.parts.Operation.{Operation}
-use Rattle.steps.specs.Operations.{round}
 use Rattle.station.specs.Calls.{Performs}
 use Rattle.station.specs.Lengths.{lengths}
 use Rattle.station.specs.Views.{made_as, running_with, station_with, made_sizes}
-use Rattle.station.specs.declared.running.End.{End}
-use Rattle.station.specs.declared.running.End.TheVariants.{Finished, OutOfFuel, Stopped}
 use Rattle.station.specs.declared.running.Gone.{Gone}
-use Rattle.station.specs.declared.running.Ran.{Ran}
 use Rattle.station.specs.declared.running.Refused.{Refused}
 use Rattle.station.specs.declared.states.Running.{Running}
 
@@ -44,19 +39,6 @@ module _ {L : Type 0} where
   Accepted st (Ok gone) = made_sizes gone.station ≡ st.sizes
   Accepted st (Err back) = ⊥
 
-  -- The station after a go that ended so, of the round as it stood then.
-  abbrev pub ended : End → Round L → Station L
-  ended Finished s = idle s.kept
-  ended OutOfFuel s = running s
-  ended (Stopped stop) s = shut stop s.pc s.kept
-
-  -- What a step came to: an end, or with none the round after it.
-  abbrev pub came_to : Option End → Round L → Outcome L
-  came_to None s = done s
-  came_to (Some Finished) s = finished
-  came_to (Some OutOfFuel) s = later
-  came_to (Some (Stopped stop)) s = stopped stop
-
 module _ {P L : Type 0} (kind : Kind L) (faithful : P → Table L → Type 0) (policy policy' : P) (program : List (Operation L)) (memory memory' : List (Labelled L)) (stack stack' : List (Entry L)) (log log' : List (Labelled L)) (fuel : ℕ) (st : Running L) where
   -- A go.
   pub record Goes (result : Result (Gone L) (Refused L)) : Type 0 where
@@ -67,20 +49,3 @@ module _ {P L : Type 0} (kind : Kind L) (faithful : P → Table L → Type 0) (p
     -- Whatever the policy, it is refused for the first part that is not as long as when the station was made, and only then.
     pub refuses : (part : Part) → not_as_made st.sizes (lengths program memory stack log) ≡ Some part → GivenBack policy policy' memory memory' stack stack' log log' st part result
     pub accepts : not_as_made st.sizes (lengths program memory stack log) ≡ None → Accepted st result
-
-  -- One step of a go.
-  pub record Turns (st' : Running L) (end : Option End) : Type 0 where
-    pub comes_to : (table : Table L) → faithful policy table
-        → (setup : Setup L) → setup.program ≡ program → setup.sizes.stack ≡ length stack → setup.sizes.log ≡ length log
-        → came_to end (round st'.registers memory' stack' log') ≡ step kind table setup fuel (round st.registers memory stack log)
-    pub still : (table : Table L) → faithful policy table → faithful policy' table
-    -- An end changes nothing; an operation is done with fuel only.
-    pub ends : end ≢ None → round st'.registers memory' stack' log' ≡ round st.registers memory stack log
-    pub fuelled : end ≡ None → 0 < fuel
-
-  -- The steps of a go.
-  pub record Runs (st' : Running L) (ran : Ran) : Type 0 where
-    pub comes_to : (table : Table L) → faithful policy table
-        → (setup : Setup L) → setup.program ≡ program → setup.sizes.stack ≡ length stack → setup.sizes.log ≡ length log
-        → run_steps kind setup table fuel (round st.registers memory stack log) ≡ record { station = ended ran.end (round st'.registers memory' stack' log'); steps = ran.steps }
-    pub still : (table : Table L) → faithful policy table → faithful policy' table

@@ -40,7 +40,8 @@ pub struct Ran {
 impl<L: Label> Running<L> {
     ghost use Rattle.std.specs.Prelude.{◌≡◌, List};
     ghost use Rattle.station.specs.Lengths.{lengths};
-    ghost use Rattle.station.specs.Goes.{Goes, Turns, Runs, ended};
+    ghost use Rattle.station.specs.Goes.{Goes};
+    ghost use Rattle.station.specs.Turns.{Turns, Runs, ended};
     ghost use Rattle.station.specs.Calls.{Asks};
     ghost use Rattle.station.specs.Views.{running_with, station_with, made_sizes};
     ghost use Rattle.steps.specs.Operations.{round};
