@@ -9,6 +9,7 @@ use std::str::FromStr;
 pub enum Command<'a> {
     Help,
     Rules(Rules<'a>),
+    Demo,
 }
 
 // `drip rules KIND FILE --policy POLICY`
@@ -49,6 +50,7 @@ pub enum Misuse<'a> {
     NoPolicy,
     TooFew,
     TooMany(&'a str),
+    AfterDemo(&'a str),
     Memory,
 }
 
@@ -65,6 +67,10 @@ impl Command<'_> {
         match name.as_str() {
             "help" | "--help" | "-h" => Ok(Command::Help),
             "rules" => Ok(Command::Rules(Rules::parse(heap, rest)?)),
+            "demo" => match rest {
+                [] => Ok(Command::Demo),
+                [extra, ..] => Err(Misuse::AfterDemo(extra)),
+            },
             other => Err(Misuse::UnknownCommand(other)),
         }
     }
@@ -136,7 +142,10 @@ impl fmt::Display for Misuse<'_> {
     fn fmt<W: fmt::Write>(&self, f: &mut fmt::Formatter<W>) -> fmt::Result {
         match *self {
             Misuse::UnknownCommand(word) => {
-                write!(f, "drip: {word:?} is no command; expected rules or help")
+                write!(
+                    f,
+                    "drip: {word:?} is no command; expected rules, demo or help"
+                )
             }
             Misuse::UnknownKind { file, word } => {
                 write!(
@@ -169,6 +178,12 @@ impl fmt::Display for Misuse<'_> {
                 write!(
                     f,
                     "drip: {word:?} is one word too many; expected a kind of label and a file"
+                )
+            }
+            Misuse::AfterDemo(word) => {
+                write!(
+                    f,
+                    "drip: {word:?} is one word too many; expected nothing after demo"
                 )
             }
             Misuse::Memory => write!(f, "drip: out of memory"),

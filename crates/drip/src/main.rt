@@ -1,12 +1,17 @@
 // drip: the installer's program.
 #![tactic(auto)]
 
+mod calls;
 mod command;
 mod complaint;
+mod demo;
 mod failure;
 mod questions;
+mod readings;
+mod site;
 
 use command::Command;
+use demo::Demo;
 use failure::Failure;
 use questions::RulesRun;
 use std::process::ExitCode;
@@ -17,6 +22,7 @@ const USAGE: &str =
 
 usage:
   drip rules KIND FILE [--policy direct|rows|cached]
+  drip demo
   drip help
 
 drip rules answers the questions in FILE, one a line, by the published rows.
@@ -29,6 +35,8 @@ drip rules answers the questions in FILE, one a line, by the published rows.
   text and the right one behind it, without a space. # starts a comment.
   --policy picks who answers: the rows worked out directly, the rows read off a
   table, or (if nothing is said) a cache over that table. The answers are the same.
+
+drip demo shows a station of two growers at work, each call with its answer.
 
 example:
   $ echo 'store 1 2 0 5' | drip rules levels -
@@ -54,6 +62,7 @@ fn run(rt: &HostRuntime) -> Result<(), Failure> {
             Ok(())
         }
         Ok(Command::Rules(asked)) => RulesRun::new(rt, asked).answer(),
+        Ok(Command::Demo) => Demo::new(rt).show(),
         Err(misuse) => {
             eprintln!(rt; "{misuse}")?;
             Err(Failure::Told)
