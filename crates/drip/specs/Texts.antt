@@ -65,7 +65,7 @@ module _ {L : Type 0} (text : L → List ℕ) where
   reply_text (Found (Some place)) = codes "place " ++ decimal place
   reply_text (Found None) = codes "none"
   reply_text (Refused why) = codes "refused with " ++ refusal_text why
-  reply_text (NotTaken state) = codes "not taken while " ++ state_text state
+  reply_text (NotTaken state) = codes "not taken, the station is " ++ state_text state
 
   abbrev pub answered_text : Answered L → List ℕ
   answered_text x = call_text x.call ++ (codes ": " ++ reply_text x.reply)

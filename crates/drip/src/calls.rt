@@ -106,7 +106,7 @@ impl<L: Label> fmt::Display for Reply<L> {
             Reply::Found(Some(place)) => write!(f, "place {place}"),
             Reply::Found(None) => write!(f, "none"),
             Reply::Refused(why) => write!(f, "refused with {}", Reason(why)),
-            Reply::NotTaken(state) => write!(f, "not taken while {state}"),
+            Reply::NotTaken(state) => write!(f, "not taken, the station is {state}"),
         }
     }
 }

@@ -4,11 +4,11 @@ use labels::Label;
 use machine::{Labelled, Refusal};
 
 impl<L: Label> Station<L> {
-    ghost use Rattle.std.specs.Prelude.{◌≡◌, List};
+    ghost use Rattle.std.specs.Prelude.{List};
     ghost use Rattle.machine.specs.declared.parts.Entry.{Entry as EntryD};
     ghost use Rattle.machine.specs.declared.parts.Labelled.{Labelled as LabelledD};
     ghost use Rattle.station.specs.Calls.{Asks};
-    ghost use Rattle.station.specs.Views.{station_with, made_sizes, in_log};
+    ghost use Rattle.station.specs.Views.{station_with, made_sizes};
 
     // The place in the log of the first command, from a place on, that is at or below the clearance.
     pub fn next_command(
@@ -25,6 +25,11 @@ impl<L: Label> Station<L> {
             Station::Shut(shut) => shut.next_command(log, from, clearance),
         }
     }
+}
+
+impl<L> Station<L> {
+    ghost use Rattle.std.specs.Prelude.{◌≡◌};
+    ghost use Rattle.station.specs.Views.{in_log};
 
     // How many commands there are in the log.
     pub fn commands(&self) -> usize

@@ -94,6 +94,10 @@ impl<L: Label> Idle<L> {
     {
         next_command(self.sizes, self.commands, log, from, clearance)
     }
+}
+
+impl<L> Idle<L> {
+    ghost use Rattle.std.specs.Prelude.{◌≡◌};
 
     // How many commands there are in the log.
     pub fn commands(&self) -> usize

@@ -83,13 +83,6 @@ impl<L: Label> Running<L> {
         next_command(self.sizes, self.registers.commands, log, from, clearance)
     }
 
-    // The place and label of the program counter, and how many entries of the stack and commands of the log are in use.
-    pub fn registers(&self) -> Registers<L>
-        ensures { result ≡ self.now.registers }
-    {
-        self.registers
-    }
-
     // Takes steps until one comes to an end.
     fn run<P: Policy<L>>(
         &mut self,
@@ -167,5 +160,16 @@ impl<L: Label> Running<L> {
                 labels: PhantomData,
             }),
         }
+    }
+}
+
+impl<L: Copy> Running<L> {
+    ghost use Rattle.std.specs.Prelude.{◌≡◌};
+
+    // The place and label of the program counter, and how many entries of the stack and commands of the log are in use.
+    pub fn registers(&self) -> Registers<L>
+        ensures { result ≡ self.now.registers }
+    {
+        self.registers
     }
 }

@@ -5,7 +5,7 @@ use labels::Label;
 use machine::{Labelled, Refusal, Stop};
 
 impl<L: Label> Shut<L> {
-    ghost use Rattle.std.specs.Prelude.{◌≡◌, List};
+    ghost use Rattle.std.specs.Prelude.{List};
     ghost use Rattle.machine.specs.declared.parts.Labelled.{Labelled as LabelledD};
     ghost use Rattle.station.specs.Calls.{Asks};
     ghost use Rattle.station.specs.Views.{shut_with};
@@ -21,6 +21,10 @@ impl<L: Label> Shut<L> {
     {
         next_command(self.sizes, self.commands, log, from, clearance)
     }
+}
+
+impl<L> Shut<L> {
+    ghost use Rattle.std.specs.Prelude.{◌≡◌};
 
     // How many commands there are in the log.
     pub fn commands(&self) -> usize
