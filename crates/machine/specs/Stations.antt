@@ -52,7 +52,8 @@ abbrev pub fitting : {A : Type 0} → Option Part → (Part → A) → A → A
 fitting None else then = then
 fitting (Some part) else then = else part
 
--- The first of four parts of these lengths that is not as long as when the station was made.
+-- Of a station made with parts as long as the first four numbers say, handed in as long as the second four say: the first part
+-- that is not as long as when it was made.
 abbrev pub not_as_made : Sizes → Sizes → Option Part
 not_as_made sizes lens = first_wrong
     ((part.Program, (lens.program == sizes.program))

@@ -20,10 +20,10 @@ module _ {L : Type 0} where
       × (made_as program st.sizes ≡ setup program memory (length stack) (length log))
   Makes program memory stack log (Err why) = make program memory (length stack) (length log) ≡ Err why
 
-  -- A call's answer, where what is answered of it when it is not refused is known.
+  -- The answer that a call's result stands for: what `says` makes of its value, or the refusal.
   abbrev pub answered : {A : Type 0} → (A → Answer L) → Result A Refusal → Answer L
-  answered given (Ok x) = given x
-  answered given (Err why) = refused why
+  answered says (Ok x) = says x
+  answered says (Err why) = refused why
 
 module _ {L : Type 0} (kind : Kind L) where
   -- A call on a station: the answer and the station after it are those that are defined.
@@ -48,7 +48,7 @@ module _ {L : Type 0} (kind : Kind L) where
   Starts st st' = (program : List (Operation L)) (memory log : List (Labelled L)) (stack : List (Entry L))
       → Performs (made_as program st.sizes) (idle_with st memory log) stations.start granted (running_with st' memory stack log)
 
-  -- The question for the next command, of a station of this kind, whatever its program.
+  -- The question for the next command, of a station with parts of these lengths, whatever its program.
   abbrev pub Asks : Sizes → Station L → List (Labelled L) → ℕ → L → Result (Option ℕ) Refusal → Type 0
   Asks sizes st log from clearance result = (program : List (Operation L))
       → Performs (made_as program sizes) st (stations.next_command (length log) from clearance) (answered found result) st

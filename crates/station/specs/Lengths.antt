@@ -1,4 +1,4 @@
--- How long four parts are, and the refusal of a part by its length. Assumes nothing.
+-- How long four parts are, and refusals of a part by its length and of a cell by its place. Assumes nothing.
 use Rattle.std.specs.Prelude.{◌≡◌, ℕ, ◌<◌, ◌≤◌, List, length, Option, Ok, Err, Result}
 use Rattle.machine.specs.Stations.{fitting}
 use Rattle.machine.specs.declared.answers.Part.{Part}

@@ -25,7 +25,7 @@ module _ {L : Type 0} where
   abbrev pub idle_with : IdleCode L → List (Labelled L) → List (Labelled L) → Station L
   idle_with st memory log = idle (kept st.commands memory log)
 
-  -- Of the stack the entries in use are kept too.
+  -- A running station has its registers besides, and of the stack the entries in use.
   abbrev pub running_with : RunningCode L → List (Labelled L) → List (Entry L) → List (Labelled L) → Station L
   running_with st memory stack log = running (round st.registers memory stack log)
 

@@ -24,7 +24,7 @@ pub struct Refused<L> {
 
 // Why a go takes no further step.
 #[derive(Clone, Copy, Debug, PartialEq, Eq)]
-pub enum End {
+enum End {
     Finished,
     OutOfFuel,
     Stopped(Stop),
@@ -32,9 +32,9 @@ pub enum End {
 
 // What the steps of a go came to, and how many there were.
 #[derive(Clone, Copy, Debug, PartialEq, Eq)]
-pub struct Ran {
-    pub end: End,
-    pub steps: u32,
+struct Ran {
+    end: End,
+    steps: u32,
 }
 
 impl<L: Label> Running<L> {

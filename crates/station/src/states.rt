@@ -1,5 +1,6 @@
 // The states of a station. Each is a type of its own that is moved from call to call, so a call that a state does not take does
-// not compile. A station holds none of its four parts, only how long they were when it was made; they are lent at each call.
+// not compile. A station holds none of its four parts, only how long they were when it was made and what is in use of them; the
+// parts are lent at each call.
 ghost use Rattle.std.specs.Prelude.{◌≡◌, ◌≤◌, None};
 ghost use Rattle.machine.specs.Numbers.{outside_limits};
 
