@@ -58,7 +58,7 @@ module _ {L : Type 0} (kind : Kind L) (idle : Idle L) (parts : Parts L) (made : 
   pub entered : (cell : ℕ) (v : Labelled L) {memory' : List (Labelled L)} (r : Result (Unit {0}) Refusal) (reply : Reply L)
       → length memory' ≡ length parts.memory.items
       → Enters kind idle parts.memory.items memory' cell v r
-      → ((left : stations.Station L) → Says reply (answered (λ _. granted) r) left)
+      → ((left : stations.Station L) → stations.Idle left → Says reply (answered (λ _. granted) r) left)
       → Lends kind parts (record parts { memory = with_items parts.memory memory' }) (state.Idle idle) (Enter cell v) (state.Idle idle, reply)
   entered cell v {memory'} r reply same_length enters says =
       let parts' = record parts { memory = with_items parts.memory memory' } in
@@ -67,7 +67,7 @@ module _ {L : Type 0} (kind : Kind L) (idle : Idle L) (parts : Parts L) (made : 
       (ap (λ s. Some (stations.enter s.memory cell v)) made)
       tt
       (rw is (enters parts.program.items parts.log.items))
-      (says _)
+      (says _ tt)
       refl
       (made ∙ ap (λ m. record { program = length parts.program.items; memory = m; stack = length parts.stack.items; log = length parts.log.items }) (sym (ap length is ∙ same_length)))
 
@@ -88,7 +88,7 @@ module _ {L : Type 0} (kind : Kind L) (idle : Idle L) (parts : Parts L) (made : 
       → Lends kind parts parts (state.Idle idle) Start (state.Running running, reply.Started)
   started running starts kept =
       lends_taken kind {parts' = parts} stations.start refl tt (starts parts.program.items parts.memory.items parts.log.items parts.stack.items)
-      refl
+      (refl, tt)
       (ap (made_as parts.program.items) kept)
       (kept ∙ made)
 

@@ -3,7 +3,7 @@ use Rattle.std.specs.Prelude.{◌≡◌, List, Some, None, Option, MatchOption}
 use Rattle.labels.specs.Kind.{Kind}
 use Rattle.rules.specs.Tables.{published}
 use Rattle.machine.specs.Stations as stations
-use Rattle.machine.specs.Stations.{Station, idle, running, shut, Answer, granted, shows, took, found, refused, Takes, answer, after}
+use Rattle.machine.specs.Stations.{Station, idle, running, shut, Answer, granted, shows, took, found, refused, Idle, Running, Takes, answer, after}
 use Rattle.machine.specs.Steps.{Setup}
 use Rattle.machine.specs.declared.parts.Entry.{Entry}
 use Rattle.machine.specs.declared.parts.Labelled.{Labelled}
@@ -31,12 +31,13 @@ module _ {L : Type 0} where
   abbrev pub Tells : StationCode L → State → Type 0
   Tells st told = (memory log : List (Labelled L)) (stack : List (Entry L)) → told ≡ state_of (station_with st memory stack log)
 
-  -- The reply says this answer. That to a go says also in which state it left the station.
+  -- The reply says this answer, and in which state the call left the station: after an enter at rest, after a start in a round,
+  -- after a go in the state that is told.
   abbrev pub Says : Reply L → Answer L → Station L → Type 0
   Says Made a left = ⊥
-  Says Entered a left = a ≡ granted
+  Says Entered a left = (a ≡ granted) × Idle left
   Says (Shown number) a left = a ≡ shows number
-  Says Started a left = a ≡ granted
+  Says Started a left = (a ≡ granted) × Running left
   Says (Gone steps told) a left = (a ≡ took steps) × (told ≡ state_of left)
   Says (Found place) a left = a ≡ found place
   Says (Refused why) a left = a ≡ refused why
