@@ -162,7 +162,7 @@ pub enum End<L> {
 }
 
 // A go of a station just started, and what it leaves.
-#[derive(Clone, Copy)]
+#[derive(Drop)]
 pub struct Case<'a, L> {
     pub name: &'a str,
     pub program: &'a [Operation<L>],

@@ -2,8 +2,8 @@
 ghost use Rattle.rules.specs.Tables.{Obeys};
 
 use crate::fixture::{Case, End, Fickle, NOTHING, call, frame, labelled, number, push};
-use Level::{L0, L1};
 use Role::{Above, Argument, Beside, Bottom, Returned, Secret, Target, Told};
+use labels::Level::{L0, L1};
 use labels::{Growers, Label, Level, Pair};
 use machine::{Entry, Frame, Labelled, Operation};
 use rules::{Cached, Direct, Policy, Request, RowTable, Verdict};
@@ -13,8 +13,8 @@ use std::fmt::Debug;
 use std::process::Abort;
 use std::test::Fail;
 
-// What a label does in the program: bottom, those that it is written with, those of a cell that it stores to, and those that it comes
-// to.
+// What a label does in the program: bottom, those that it is written with, those of the cell that it stores to, and those that it
+// comes to.
 #[derive(Clone, Copy)]
 enum Role {
     Bottom,
@@ -80,7 +80,7 @@ static RUNS: [Case<'static, Role>; 2] = [
 ];
 
 // The labels of a kind by their role.
-#[derive(Clone, Copy)]
+#[derive(Drop)]
 struct Labels<L> {
     argument: L,
     target: L,
@@ -162,8 +162,15 @@ impl<L: Label + Debug + PartialEq> Labels<L> {
     }
 
     // Runs a case with these labels in their roles, under each policy that is true to the published rows.
-    fn run(&self, rt: &(impl Abort + AllocGlobal), case: &Case<Role>) -> Result<(), Fail> {
+    fn run(
+        &self,
+        rt: &(impl Abort + AllocGlobal),
+        kind: &str,
+        case: &Case<Role>,
+    ) -> Result<(), Fail> {
         let alloc = rt.alloc();
+        let what = case.name;
+        let name = format!(in alloc; "{kind}, {what}")?;
         let program: Vec<Operation<L>> = case
             .program
             .iter()
@@ -178,7 +185,7 @@ impl<L: Label + Debug + PartialEq> Labels<L> {
             .collect(alloc)?;
         let log = self.all(alloc, case.log)?;
         let case = Case {
-            name: case.name,
+            name: name.as_str(),
             program: program.as_slice(),
             memory: memory.as_slice(),
             fuel: case.fuel,
@@ -195,9 +202,9 @@ impl<L: Label + Debug + PartialEq> Labels<L> {
         Ok(())
     }
 
-    fn run_all(&self, rt: &(impl Abort + AllocGlobal)) -> Result<(), Fail> {
+    fn run_all(&self, rt: &(impl Abort + AllocGlobal), kind: &str) -> Result<(), Fail> {
         for case in &RUNS {
-            self.run(rt, case)?;
+            self.run(rt, kind, case)?;
         }
         Ok(())
     }
@@ -222,7 +229,7 @@ fn kinds_and_policies_run_alike(rt: HostRuntime) -> Result<(), Fail> {
         returned: pair(Level::L2, Level::L3),
         told: pair(Level::L2, Level::L5),
     };
-    levels.run_all(&rt)?;
+    levels.run_all(&rt, "pairs of levels")?;
     let sets = Labels {
         argument: growers(0x0001),
         target: growers(0x0002),
@@ -232,7 +239,7 @@ fn kinds_and_policies_run_alike(rt: HostRuntime) -> Result<(), Fail> {
         returned: growers(0x0003),
         told: growers(0x0006),
     };
-    sets.run_all(&rt)?;
+    sets.run_all(&rt, "growers")?;
     let pairs = Labels {
         argument: pair(growers(0x0001), growers(0x8000)),
         target: pair(growers(0x0002), growers(0x0008)),
@@ -242,7 +249,7 @@ fn kinds_and_policies_run_alike(rt: HostRuntime) -> Result<(), Fail> {
         returned: pair(growers(0x0003), growers(0x8008)),
         told: pair(growers(0x0002), growers(0x000c)),
     };
-    pairs.run_all(&rt)
+    pairs.run_all(&rt, "pairs of growers")
 }
 
 // A case, how many askings the policy answers, and how many there are.
@@ -446,6 +453,13 @@ const REPEATING: Case<'static, Level> = Case {
 #[test]
 fn a_step_asks_once_and_a_cache_below_only_on_a_miss(rt: HostRuntime) -> Result<(), Fail> {
     let asked = Cell::new(0);
+    let mut policy = Counting {
+        below: Direct::new::<Level>(),
+        asked: &asked,
+    };
+    REPEATING.run(&rt, &mut policy)?;
+    assert_eq!(rt; asked.get(), 6, "once a step");
+    let asked_cache = Cell::new(0);
     let asked_below = Cell::new(0);
     let below = Counting {
         below: Direct::new::<Level>(),
@@ -453,10 +467,10 @@ fn a_step_asks_once_and_a_cache_below_only_on_a_miss(rt: HostRuntime) -> Result<
     };
     let mut policy = Counting {
         below: Cached::new(below),
-        asked: &asked,
+        asked: &asked_cache,
     };
     REPEATING.run(&rt, &mut policy)?;
-    assert_eq!(rt; asked.get(), 6, "once a step");
-    assert_eq!(rt; asked_below.get(), 4, "on a miss only");
+    assert_eq!(rt; asked_cache.get(), 6, "a cache, once a step");
+    assert_eq!(rt; asked_below.get(), 4, "below a cache, on a miss only");
     Ok(())
 }

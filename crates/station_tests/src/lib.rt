@@ -9,4 +9,6 @@ mod fixture;
 #[cfg(test)]
 mod kinds;
 #[cfg(test)]
+mod stops;
+#[cfg(test)]
 mod worked;
