@@ -1,0 +1,8 @@
+// The rule policies by name, and one type for whichever of them is named.
+#![tactic(auto)]
+
+mod any;
+mod name;
+
+pub use any::AnyPolicy;
+pub use name::{PolicyName, UnknownName};

@@ -1,0 +1,64 @@
+// The names of the policies.
+ghost use Rattle.std.specs.Prelude.{◌≡◌, Some, codes};
+ghost use Rattle.policies.specs.Names.{name, NameRead};
+
+use std::error::Error;
+use std::fmt;
+use std::str::FromStr;
+
+// A policy by name: the rows worked out directly, the rows read off a table, or a cache over that table.
+#[derive(Clone, Copy, Debug, PartialEq, Eq, Hash)]
+pub enum PolicyName {
+    Direct,
+    Rows,
+    Cached,
+}
+
+impl PolicyName {
+    pub fn name(self) -> &'static str
+        ensures { result.now ≡ name self }
+    {
+        match self {
+            PolicyName::Direct => "direct",
+            PolicyName::Rows => "rows",
+            PolicyName::Cached => "cached",
+        }
+    }
+}
+
+impl fmt::Display for PolicyName {
+    ghost output = { λ policy. Some (name policy) };
+
+    fn fmt<W: fmt::Write>(&self, f: &mut fmt::Formatter<W>) -> fmt::Result {
+        f.write_str(self.name())
+    }
+}
+
+// A word that is no policy's name.
+#[derive(Clone, Copy, Debug, PartialEq, Eq, Hash)]
+pub struct UnknownName;
+
+impl FromStr for PolicyName {
+    type Err = UnknownName;
+
+    ghost from_str_gives = { NameRead };
+
+    fn from_str(word: &str) -> Result<PolicyName, UnknownName> {
+        match word {
+            "direct" => Ok(PolicyName::Direct),
+            "rows" => Ok(PolicyName::Rows),
+            "cached" => Ok(PolicyName::Cached),
+            _ => Err(UnknownName),
+        }
+    }
+}
+
+impl fmt::Display for UnknownName {
+    ghost output = { λ _. Some (codes "no policy has this name") };
+
+    fn fmt<W: fmt::Write>(&self, f: &mut fmt::Formatter<W>) -> fmt::Result {
+        f.write_str("no policy has this name")
+    }
+}
+
+impl Error for UnknownName {}

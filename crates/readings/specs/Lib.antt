@@ -1,0 +1,6 @@
+pub mod Readings
+pub mod Levels
+pub mod Growers
+pub mod Pairs
+pub mod Logged
+pub mod Counted
