@@ -1,0 +1,19 @@
+use Rattle.sites.proofs.lending.Parts.lend.Goals as goal
+
+pub returns-in-Enter-clause-hands : goal.returns-in-Enter-clause-hands
+returns-in-Enter-clause-hands g c = rw c.in-Enter.is c.enter.ensures
+
+pub returns-in-Look-clause-hands : goal.returns-in-Look-clause-hands
+returns-in-Look-clause-hands g c = rw c.in-Look.is c.look-reply.ensures
+
+pub returns-in-Start-clause-hands : goal.returns-in-Start-clause-hands
+returns-in-Start-clause-hands g c = rw c.in-Start.is c.start.ensures
+
+pub returns-in-Go-clause-hands : goal.returns-in-Go-clause-hands
+returns-in-Go-clause-hands g c = rw c.in-Go.is c.go.ensures.hands
+
+pub returns-in-Go-clause-unasked : goal.returns-in-Go-clause-unasked
+returns-in-Go-clause-unasked g c = rw c.in-Go.is c.go.ensures.unasked
+
+pub returns-in-Command-clause-hands : goal.returns-in-Command-clause-hands
+returns-in-Command-clause-hands g c = rw c.in-Command.is c.next_command-reply.ensures

@@ -1,0 +1,4 @@
+pub mod Calls
+pub mod Sites
+pub mod Texts
+pub mod Rehearsals
