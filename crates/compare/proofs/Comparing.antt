@@ -1,0 +1,111 @@
+-- Reports on two runs that were alike to the observer.
+use Rattle.std.proofs.Common.{◌≡◌, ℕ, zero, suc, Bool, true, false, cond, List, [], ◌∷◌, length, map, filter, take, Some, None, Option, refl, sym, ap, ◌∙◌, subst, inl, inr}
+use Rattle.labels.specs.Kind.{Kind, Lawful}
+use Rattle.rules.specs.Tables.{published}
+use Rattle.machine.specs.Lists.{Each, none, more, Begins, ends, goes_on, OneBegins}
+use Rattle.machine.specs.Observer.{History, setup_of, inputs, AlikeCall, same_start, alike_enter, AlikeStations, AlikeCalls, SameCommands, SameLooks, visible}
+use Rattle.machine.specs.Stations.{Idle, commands_of}
+use Rattle.machine.specs.declared.parts.Labelled.{Labelled}
+use Rattle.machine.specs.declared.parts.Sizes.{Sizes}
+use Rattle.machine.proofs.Secrecy.{noninterference}
+use Rattle.sites.specs.Calls.{Sited, meant}
+use Rattle.sites.specs.declared.calls.Call.{Call}
+use Rattle.sites.specs.declared.lending.Parts.{Parts}
+use Rattle.compare.specs.Differences.{Breaks}
+use Rattle.compare.specs.Runs.{counts}
+use Rattle.compare.specs.Reports.{AlikeInput, same_start as started_alike, alike_enter as entered_alike, AlikeExchange, Reports, LooksDue, LooksTold, NothingDiffers, look_at}
+use Rattle.compare.specs.declared.exchanges.Exchange.{Exchange}
+use Rattle.compare.specs.declared.reports.Looks.{Looks}
+use Rattle.compare.specs.declared.reports.Looks.TheVariants.{NotDue, Same, DifferAt}
+use Rattle.compare.specs.declared.reports.Report.{Report}
+use Rattle.compare.proofs.Histories.{Past, input}
+
+module _ {A : Type 0} {R : A → A → Type 0} where
+  begins_take : (n : ℕ) {xs ys : List A} → Begins R xs ys → Begins R (take n xs) (take n ys)
+  begins_take zero begins = ends
+  begins_take (suc n) ends = ends
+  begins_take (suc n) (goes_on r begins) = goes_on r (begins_take n begins)
+
+  one_begins_take : (n : ℕ) (xs ys : List A) → OneBegins R xs ys → OneBegins R (take n xs) (take n ys)
+  one_begins_take n xs ys (inl begins) = inl (begins_take n begins)
+  one_begins_take n xs ys (inr begins) = inr (begins_take n begins)
+
+  -- Lists of which one begins the other differ nowhere.
+  never_breaks : (xs ys : List A) (place : Option ℕ) → Breaks (OneBegins R) xs ys place → OneBegins R xs ys → place ≡ None
+  never_breaks xs ys None breaks begin = refl
+  never_breaks xs ys (Some n) breaks begin = absurd (breaks.1 (one_begins_take (suc n) xs ys begin))
+
+  begins_map : {B : Type 0} {S : B → B → Type 0} (f g : A → B) → ((x y : A) → R x y → S (f x) (g y)) → {xs ys : List A} → Begins R xs ys → Begins S (map f xs) (map g ys)
+  begins_map f g related ends = ends
+  begins_map f g related (goes_on r begins) = goes_on (related _ _ r) (begins_map f g related begins)
+
+  each_long : {xs ys : List A} → Each R xs ys → length xs ≡ length ys
+  each_long none = refl
+  each_long (more r each) = ap suc (each_long each)
+
+length-map : {A B : Type 0} (f : A → B) (xs : List A) → length (map f xs) ≡ length xs
+length-map f [] = refl
+length-map f (x ∷ xs) = ap suc (length-map f xs)
+
+module _ {L : Type 0} (kind : Kind L) (o : L) where
+  -- Written calls that are alike stand for alike calls on stations with equally long memories.
+  alike_meant : (sizes sizes' : Sizes) → sizes.memory ≡ sizes'.memory → (e f : Call L) → AlikeInput kind o e f
+      → AlikeCall kind o (meant sizes (published kind) e) (meant sizes' (published kind) f)
+  alike_meant sizes sizes' same e f started_alike = same_start
+  alike_meant sizes sizes' same e f (entered_alike a) = rw same (alike_enter a)
+
+  alike_inputs : (sizes sizes' : Sizes) → sizes.memory ≡ sizes'.memory → (es fs : List (Exchange L)) → OneBegins (AlikeExchange kind o) es fs
+      → OneBegins (AlikeCall kind o) (map (input kind sizes) es) (map (input kind sizes') fs)
+  alike_inputs sizes sizes' same es fs (inl begins) = inl (begins_map (input kind sizes) (input kind sizes') (λ e f. alike_meant sizes sizes' same e.call f.call) begins)
+  alike_inputs sizes sizes' same es fs (inr begins) = inr (begins_map (input kind sizes') (input kind sizes) (λ e f. alike_meant sizes' sizes (sym same) e.call f.call) begins)
+
+  module _ (laws : Lawful kind) (h k : History L) (es fs : List (Exchange L)) (one two : Sited L) (first : Past kind h es one) (second : Past kind k fs two) where
+    module _ (alike_stations : AlikeStations kind o h k) (alike_calls : AlikeCalls kind o h k) where
+      same_shown : SameCommands kind o h k × SameLooks kind o h k
+      same_shown = noninterference laws o h k first.proper second.proper alike_stations alike_calls
+
+      pub same_commands : (place : Option ℕ) → Breaks (OneBegins ◌≡◌) (visible kind o (commands_of one.station)) (visible kind o (commands_of two.station)) place → place ≡ None
+      same_commands place breaks = never_breaks _ _ place breaks (rw (first.ends, second.ends) same_shown.0)
+
+      counted_evenly : length (filter counts es) ≡ length (filter counts fs) → length (inputs h) ≡ length (inputs k)
+      counted_evenly evenly = ap length first.inputs_are ∙ length-map (input kind (setup_of h).sizes) (filter counts es) ∙ evenly
+          ∙ sym (length-map (input kind (setup_of k).sizes) (filter counts fs)) ∙ sym (ap length second.inputs_are)
+
+      same_look : LooksDue kind o es fs one two → (cell : ℕ) → look_at kind o one cell ≡ look_at kind o two cell
+      same_look due cell = rw (first.setup_is, second.setup_is, first.ends, second.ends)
+          (same_shown.1 (counted_evenly due.0) (subst Idle first.ends due.1) (subst Idle second.ends due.2) cell o (laws.reflexive o))
+
+      pub never_differ : (looks : Looks) → LooksTold kind o (LooksDue kind o es fs one two) one two looks → (cell : ℕ) → (looks ≡ DifferAt cell) → ⊥
+      never_differ NotDue told cell is = cc is
+      never_differ Same told cell is = cc is
+      never_differ (DifferAt at) told cell is = told.1.0 (same_look told.0 at)
+
+    -- Where stations and calls are alike, the report says that nothing differs.
+    pub nothing_differs : {parts parts' : Parts L} {report : Report} → Reports kind o parts parts' es fs one two report
+        → AlikeStations kind o h k → AlikeCalls kind o h k → NothingDiffers report
+    nothing_differs {parts} {parts'} {report} reports alike_stations alike_calls = (
+      same_commands alike_stations alike_calls report.commands reports.commands,
+      never_differ alike_stations alike_calls report.looks reports.looks,
+    )
+
+    -- The calls are alike if no two of those that count differ.
+    pub calls_alike : AlikeStations kind o h k → OneBegins (AlikeExchange kind o) (filter counts es) (filter counts fs) → AlikeCalls kind o h k
+    calls_alike alike_stations begin = rw (first.inputs_are, second.inputs_are)
+        (alike_inputs (setup_of h).sizes (setup_of k).sizes (each_long alike_stations.1) (filter counts es) (filter counts fs) begin)
+
+module _ {L : Type 0} (kind : Kind L) (o : L) where
+  -- the numbers at or below the level, picked out by the test
+  tested : (b : Bool) (v : Labelled L) {vs ws : List (Labelled L)} → vs ≡ ws → cond b (v ∷ vs) vs ≡ cond b (v ∷ ws) ws
+  tested true v same = ap (λ xs. v ∷ xs) same
+  tested false v same = same
+
+  visible_filtered : (vs : List (Labelled L)) → visible kind o vs ≡ filter (λ v. kind.below v.label o) vs
+  visible_filtered [] = refl
+  visible_filtered (v ∷ vs) = tested (kind.below v.label o) v (visible_filtered vs)
+
+  pub of_commands : (vs ws : List (Labelled L)) (place : Option ℕ)
+      → Breaks (OneBegins ◌≡◌) (filter (λ v. kind.below v.label o) vs) (filter (λ v. kind.below v.label o) ws) place
+      → Breaks (OneBegins ◌≡◌) (visible kind o vs) (visible kind o ws) place
+  of_commands vs ws place breaks =
+      subst (λ xs. Breaks (OneBegins ◌≡◌) xs (visible kind o ws) place) (sym (visible_filtered vs))
+      (subst (λ ys. Breaks (OneBegins ◌≡◌) (filter (λ v. kind.below v.label o) vs) ys place) (sym (visible_filtered ws)) breaks)

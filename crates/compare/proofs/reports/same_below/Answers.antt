@@ -1,0 +1,5 @@
+use Rattle.compare.proofs.Looking.{same_below}
+use Rattle.compare.proofs.reports.same_below.Goals as goal
+
+pub returns : goal.returns
+returns g c = same_below g.met.L.Label.lawful

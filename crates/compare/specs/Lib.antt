@@ -1,0 +1,5 @@
+pub mod Differences
+pub mod Runs
+pub mod Reports
+pub mod Symmetry
+pub mod Tests

@@ -1,0 +1,62 @@
+// Calls in a list: each with what it is lent and, once it was its turn, the reply.
+ghost use Rattle.std.specs.Prelude.{◌≡◌, None};
+ghost use Rattle.compare.specs.Runs.{Exchanged, counts};
+ghost use Rattle.compare.specs.declared.exchanges.Lent.TheVariants.{Own};
+
+use labels::Label;
+use machine::Refusal;
+use rules::Policy;
+use sites::{Call, Parts, Reply, Site};
+
+// What a call is lent: the station's own parts, or others in their place.
+#[derive(Debug, Drop)]
+pub enum Lent<L> {
+    Own,
+    Others(Parts<L>),
+}
+
+// A call of a list.
+#[derive(Debug, Drop)]
+pub struct Exchange<L> {
+    pub call: Call<L>,
+    pub lent: Lent<L>,
+    // the reply, once the call was made or declined
+    pub reply: Option<Reply<L>>,
+}
+
+impl<L: Label> Exchange<L> {
+    // A call that is lent the station's own parts.
+    pub fn of(call: Call<L>) -> Exchange<L>
+        ensures { result ≡ record { call = call; lent = Own; reply = None } }
+    {
+        Exchange {
+            call,
+            lent: Lent::Own,
+            reply: None,
+        }
+    }
+
+    // Makes the call on a site and keeps the reply.
+    pub(crate) fn make_on<P: Policy<L> + Drop>(&mut self, site: Site<P, L>) -> Site<P, L>
+        ensures { Exchanged L.Label.kind P.Policy.faithful site self.old result self.new }
+    {
+        let call = self.call;
+        let (site, reply) = match &mut self.lent {
+            Lent::Own => site.call(call),
+            Lent::Others(parts) => site.call_with(parts, call),
+        };
+        self.reply = Some(reply);
+        site
+    }
+
+    // Whether the call counts when two lists are compared: an enter or a start that was made, and not refused for a part.
+    pub fn counts(&self) -> bool
+        ensures { result ≡ counts self.now }
+    {
+        let stands = !matches!(
+            self.reply,
+            None | Some(Reply::NotTaken(_) | Reply::NotLent | Reply::Refused(Refusal::Length(_)))
+        );
+        stands && matches!(self.call, Call::Enter { .. } | Call::Start)
+    }
+}
