@@ -1,0 +1,6 @@
+pub mod Digits
+pub mod Labelled
+pub mod InOrder
+pub mod Wording
+pub mod Given
+pub mod Sections

@@ -1,0 +1,4 @@
+use Rattle.sheets.proofs.reader.memory_size.Given as goal
+
+abbrev pub invariant-loop-line : goal.invariant-loop-line
+invariant-loop-line l = Unit {0}

@@ -1,0 +1,7 @@
+pub mod Numbers
+pub mod Words
+pub mod Kinds
+pub mod Lines
+pub mod Settings
+pub mod Sheets
+pub mod Parts

@@ -1,0 +1,67 @@
+// Numbers in decimal.
+ghost use Rattle.std.specs.Prelude.{◌≡◌, ◌≤◌, ℕ, ℤ, IfOk, Ok, FitsSigned};
+ghost use Rattle.std.specs.Fmt.{decimal, signed_decimal};
+ghost use Rattle.std.specs.Int.{w64};
+ghost use Rattle.sheets.specs.Numbers.{Between, GivesValue};
+
+use crate::{Due, Problem};
+use std::num::IntErrorKind;
+
+// Why a word is not a number that is due.
+#[derive(Clone, Copy, PartialEq, Eq)]
+pub enum NumberFault {
+    NotDigits,
+    OutOfRange,
+}
+
+impl NumberFault {
+    pub fn problem<'a>(self, word: &'a str, due: Due) -> Problem<'a> {
+        match self {
+            NumberFault::NotDigits => Problem::NoNumber(word, due),
+            NumberFault::OutOfRange => Problem::OutOfRange(word, due),
+        }
+    }
+}
+
+// The number that digits give, with `-` before them if it is negative, if it is from `least` to `most`.
+fn number_between(word: &str, least: i64, most: i64) -> Result<i64, NumberFault>
+    ensures within { IfOk result (Between least most) }
+    ensures reads { (z : ℤ) → FitsSigned w64 z → Between least most z → word.now ≡ signed_decimal z → result ≡ Ok z }
+{
+    let number = integer(word)?;
+    if number < least || most < number {
+        return Err(NumberFault::OutOfRange);
+    }
+    Ok(number)
+}
+
+fn integer(word: &str) -> Result<i64, NumberFault>
+    ensures { (z : ℤ) → FitsSigned w64 z → word.now ≡ signed_decimal z → result ≡ Ok z }
+{
+    if word.starts_with('+') {
+        return Err(NumberFault::NotDigits);
+    }
+    word.parse::<i64>().map_err(|e| match e.kind() {
+        IntErrorKind::PosOverflow | IntErrorKind::NegOverflow => NumberFault::OutOfRange,
+        _ => NumberFault::NotDigits,
+    })
+}
+
+pub fn unsigned(word: &str, most: u32) -> Result<u32, Problem<'_>>
+    ensures within { IfOk result (λ n. n ≤ most) }
+    ensures reads { (n : ℕ) → n ≤ most → word.now ≡ decimal n → result ≡ Ok n }
+{
+    let most = i64::from(most);
+    match number_between(word, 0, most) {
+        Ok(number) => Ok(number as u32),
+        Err(why) => Err(why.problem(word, Due::Number(0, most))),
+    }
+}
+
+// A number of 32 bits, with a sign.
+pub fn signed(word: &str) -> Result<i32, NumberFault>
+    ensures { GivesValue word.now result }
+{
+    let number = number_between(word, i64::from(i32::MIN), i64::from(i32::MAX))?;
+    Ok(number as i32)
+}
