@@ -1,15 +1,40 @@
 // The command line.
+use crate::kinds::Named;
+use policies::PolicyName;
+use sheets::{Kind, KindName};
 use std::alloc::{AllocFailed, Global};
 use std::error::Error;
 use std::fmt;
-use std::str::FromStr;
 
-// What is asked of the program. Option<Rules> has the same values, but its None would not say help.
+// What is asked of the program.
 #[derive(Clone, Copy, Debug, PartialEq, Eq)]
 pub enum Command<'a> {
-    Help,
+    Run(OneSheet<'a>),
+    Key(OneSheet<'a>),
+    Trace(OneSheet<'a>),
+    Compare(TwoSheets<'a>),
     Rules(Rules<'a>),
-    Demo,
+    // `drip demo --policy POLICY`
+    Demo(PolicyName),
+    // the page of a command
+    Help(Name),
+    Version,
+}
+
+// `drip run SHEET --policy POLICY`, and so `drip key` and `drip trace`
+#[derive(Clone, Copy, Debug, PartialEq, Eq)]
+pub struct OneSheet<'a> {
+    pub file: &'a str,
+    pub policy: PolicyName,
+}
+
+// `drip compare SHEET SHEET LABEL --policy POLICY`
+#[derive(Clone, Copy, Debug, PartialEq, Eq)]
+pub struct TwoSheets<'a> {
+    pub first: &'a str,
+    pub second: &'a str,
+    pub label: &'a str,
+    pub policy: PolicyName,
 }
 
 // `drip rules KIND FILE --policy POLICY`
@@ -20,24 +45,17 @@ pub struct Rules<'a> {
     pub file: &'a str,
 }
 
-// A kind of label that the program knows.
+// A command by its name.
 #[derive(Clone, Copy, Debug, PartialEq, Eq)]
-pub enum Kind {
-    One(KindName),
-    Pair(KindName, KindName),
-}
-
-#[derive(Clone, Copy, Debug, PartialEq, Eq)]
-pub enum KindName {
-    Levels,
-    Growers,
-}
-
-#[derive(Clone, Copy, Debug, PartialEq, Eq)]
-pub enum PolicyName {
-    Direct,
-    Rows,
-    Cached,
+pub enum Name {
+    Run,
+    Key,
+    Trace,
+    Compare,
+    Rules,
+    Demo,
+    Help,
+    Version,
 }
 
 // What is wrong with a command line.
@@ -48,37 +66,80 @@ pub enum Misuse<'a> {
     UnknownPolicy(&'a str),
     UnknownOption(&'a str),
     NoPolicy,
-    TooFew,
-    TooMany(&'a str),
-    AfterDemo(&'a str),
+    TooFew(Name),
+    TooMany(Name, &'a str),
+    InputTwice,
+    KindsDiffer(TwoSheets<'a>, Kind, Kind),
+    WrongLabel(&'a str, Kind),
     Memory,
 }
 
-// The word names no kind of label, or no policy.
-#[derive(Clone, Copy, Debug, PartialEq, Eq)]
-pub struct UnknownName;
+// The words behind a command's name: the plain ones, and the policy that the options name.
+#[derive(Drop)]
+struct Words<'a> {
+    command: Name,
+    plain: Vec<&'a str>,
+    policy: PolicyName,
+}
 
 impl Command<'_> {
     // The command that the words after the program's own name give.
     pub fn parse(heap: Global, words: &[String]) -> Result<Command<'_>, Misuse<'_>> {
-        let [name, rest @ ..] = words else {
-            return Ok(Command::Help);
+        let [word, rest @ ..] = words else {
+            return Ok(Command::Help(Name::Help));
         };
-        match name.as_str() {
-            "help" | "--help" | "-h" => Ok(Command::Help),
-            "rules" => Ok(Command::Rules(Rules::parse(heap, rest)?)),
-            "demo" => match rest {
-                [] => Ok(Command::Demo),
-                [extra, ..] => Err(Misuse::AfterDemo(extra)),
+        let name = Name::parse(word.as_str())?;
+        match name {
+            Name::Run => Ok(Command::Run(Words::parse(heap, name, rest)?.one_sheet()?)),
+            Name::Key => Ok(Command::Key(Words::parse(heap, name, rest)?.one_sheet()?)),
+            Name::Trace => Ok(Command::Trace(Words::parse(heap, name, rest)?.one_sheet()?)),
+            Name::Compare => Ok(Command::Compare(Words::parse(heap, name, rest)?.two_sheets()?)),
+            Name::Rules => Ok(Command::Rules(Words::parse(heap, name, rest)?.rules()?)),
+            Name::Demo => Ok(Command::Demo(Words::parse(heap, name, rest)?.nothing()?)),
+            Name::Help => match rest {
+                [] => Ok(Command::Help(Name::Help)),
+                [topic] => Ok(Command::Help(Name::parse(topic.as_str())?)),
+                [_, extra, ..] => Err(Misuse::TooMany(name, extra)),
             },
-            other => Err(Misuse::UnknownCommand(other)),
+            Name::Version => match rest {
+                [] => Ok(Command::Version),
+                [extra, ..] => Err(Misuse::TooMany(name, extra)),
+            },
         }
     }
 }
 
-impl Rules<'_> {
+impl Name {
+    fn parse(word: &str) -> Result<Name, Misuse<'_>> {
+        match word {
+            "run" => Ok(Name::Run),
+            "key" => Ok(Name::Key),
+            "trace" => Ok(Name::Trace),
+            "compare" => Ok(Name::Compare),
+            "rules" => Ok(Name::Rules),
+            "demo" => Ok(Name::Demo),
+            "help" | "--help" | "-h" => Ok(Name::Help),
+            "--version" => Ok(Name::Version),
+            other => Err(Misuse::UnknownCommand(other)),
+        }
+    }
+
+    // What stands behind the name.
+    fn operands(self) -> &'static str {
+        match self {
+            Name::Run | Name::Key | Name::Trace => "one station sheet",
+            Name::Compare => "two station sheets and a label",
+            Name::Rules => "a kind of label and a file",
+            Name::Demo => "nothing after demo but --policy",
+            Name::Help => "at most one command after help",
+            Name::Version => "nothing after --version",
+        }
+    }
+}
+
+impl<'a> Words<'a> {
     // The options may stand anywhere, so the loop takes them out, each with its value, and keeps the plain words.
-    fn parse(heap: Global, words: &[String]) -> Result<Rules<'_>, Misuse<'_>> {
+    fn parse(heap: Global, command: Name, words: &'a [String]) -> Result<Words<'a>, Misuse<'a>> {
         let mut plain = Vec::new(heap);
         let mut policy = PolicyName::Cached;
         let mut words = words.iter();
@@ -92,8 +153,50 @@ impl Rules<'_> {
                 word => plain.push(word)?,
             }
         }
-        match plain.as_slice() {
-            [] | [_] => Err(Misuse::TooFew),
+        Ok(Words {
+            command,
+            plain,
+            policy,
+        })
+    }
+
+    // No word but the options: the policy.
+    fn nothing(self) -> Result<PolicyName, Misuse<'a>> {
+        match self.plain.as_slice() {
+            [] => Ok(self.policy),
+            [extra, ..] => Err(Misuse::TooMany(self.command, extra)),
+        }
+    }
+
+    fn one_sheet(self) -> Result<OneSheet<'a>, Misuse<'a>> {
+        match self.plain.as_slice() {
+            [] => Err(Misuse::TooFew(self.command)),
+            [file] => Ok(OneSheet {
+                file,
+                policy: self.policy,
+            }),
+            [_, extra, ..] => Err(Misuse::TooMany(self.command, extra)),
+        }
+    }
+
+    fn two_sheets(self) -> Result<TwoSheets<'a>, Misuse<'a>> {
+        match self.plain.as_slice() {
+            [] | [_] | [_, _] => Err(Misuse::TooFew(self.command)),
+            ["-", "-", _] => Err(Misuse::InputTwice),
+            [first, second, label] => Ok(TwoSheets {
+                first,
+                second,
+                label,
+                policy: self.policy,
+            }),
+            [_, _, _, extra, ..] => Err(Misuse::TooMany(self.command, extra)),
+        }
+    }
+
+    fn rules(self) -> Result<Rules<'a>, Misuse<'a>> {
+        let policy = self.policy;
+        match self.plain.as_slice() {
+            [] | [_] => Err(Misuse::TooFew(self.command)),
             [word, file] => {
                 let kind = Kind::One(kind_named(file, word)?);
                 Ok(Rules { kind, policy, file })
@@ -102,7 +205,7 @@ impl Rules<'_> {
                 let kind = Kind::Pair(kind_named(file, left)?, kind_named(file, right)?);
                 Ok(Rules { kind, policy, file })
             }
-            [_, _, _, extra, ..] => Err(Misuse::TooMany(extra)),
+            [_, _, _, extra, ..] => Err(Misuse::TooMany(self.command, extra)),
         }
     }
 }
@@ -112,28 +215,18 @@ fn kind_named<'a>(file: &'a str, word: &'a str) -> Result<KindName, Misuse<'a>> 
     word.parse().map_err(|_| Misuse::UnknownKind { file, word })
 }
 
-impl FromStr for KindName {
-    type Err = UnknownName;
-
-    fn from_str(word: &str) -> Result<KindName, UnknownName> {
-        match word {
-            "levels" => Ok(KindName::Levels),
-            "growers" => Ok(KindName::Growers),
-            _ => Err(UnknownName),
-        }
-    }
-}
-
-impl FromStr for PolicyName {
-    type Err = UnknownName;
-
-    fn from_str(word: &str) -> Result<PolicyName, UnknownName> {
-        match word {
-            "direct" => Ok(PolicyName::Direct),
-            "rows" => Ok(PolicyName::Rows),
-            "cached" => Ok(PolicyName::Cached),
-            _ => Err(UnknownName),
-        }
+impl fmt::Display for Name {
+    fn fmt<W: fmt::Write>(&self, f: &mut fmt::Formatter<W>) -> fmt::Result {
+        f.write_str(match *self {
+            Name::Run => "run",
+            Name::Key => "key",
+            Name::Trace => "trace",
+            Name::Compare => "compare",
+            Name::Rules => "rules",
+            Name::Demo => "demo",
+            Name::Help => "help",
+            Name::Version => "--version",
+        })
     }
 }
 
@@ -141,79 +234,57 @@ impl FromStr for PolicyName {
 impl fmt::Display for Misuse<'_> {
     fn fmt<W: fmt::Write>(&self, f: &mut fmt::Formatter<W>) -> fmt::Result {
         match *self {
-            Misuse::UnknownCommand(word) => {
-                write!(
-                    f,
-                    "drip: {word:?} is no command; expected rules, demo or help"
-                )
-            }
-            Misuse::UnknownKind { file, word } => {
-                write!(
-                    f,
-                    "{file}:0: {word:?} is no kind of label; expected levels, growers, or two of them for a pair"
-                )
-            }
-            Misuse::UnknownPolicy(word) => {
-                write!(
-                    f,
-                    "drip: {word:?} is no policy; expected direct, rows or cached"
-                )
-            }
+            Misuse::UnknownCommand(word) => write!(
+                f,
+                "drip: {word:?} is no command; expected run, key, trace, compare, rules, demo or help"
+            ),
+            Misuse::UnknownKind { file, word } => write!(
+                f,
+                "{file}:0: {word:?} is no kind of label; expected levels, growers, or two of them for a pair"
+            ),
+            Misuse::UnknownPolicy(word) => write!(
+                f,
+                "drip: {word:?} is no policy; expected direct, rows or cached"
+            ),
             Misuse::UnknownOption(word) => {
                 write!(f, "drip: {word:?} is no option; expected --policy")
             }
-            Misuse::NoPolicy => {
-                write!(
-                    f,
-                    "drip: nothing after --policy; expected direct, rows or cached"
-                )
-            }
-            Misuse::TooFew => {
-                write!(
-                    f,
-                    "drip: too few words after rules; expected a kind of label and a file"
-                )
-            }
-            Misuse::TooMany(word) => {
-                write!(
-                    f,
-                    "drip: {word:?} is one word too many; expected a kind of label and a file"
-                )
-            }
-            Misuse::AfterDemo(word) => {
-                write!(
-                    f,
-                    "drip: {word:?} is one word too many; expected nothing after demo"
-                )
-            }
+            Misuse::NoPolicy => write!(
+                f,
+                "drip: nothing after --policy; expected direct, rows or cached"
+            ),
+            Misuse::TooFew(command) => write!(
+                f,
+                "drip: too few words after {command}; expected {}",
+                command.operands()
+            ),
+            Misuse::TooMany(command, word) => write!(
+                f,
+                "drip: {word:?} is one word too many; expected {}",
+                command.operands()
+            ),
+            Misuse::InputTwice => write!(
+                f,
+                "drip: - stands for both sheets; expected standard input for at most one"
+            ),
+            Misuse::KindsDiffer(sheets, first, second) => write!(
+                f,
+                "drip: the labels of {} are {}, those of {} are {}; expected the same kind in both",
+                sheets.first,
+                Named(first),
+                sheets.second,
+                Named(second)
+            ),
+            Misuse::WrongLabel(word, kind) => write!(
+                f,
+                "drip: {word:?} is no label of this kind; expected {kind}"
+            ),
             Misuse::Memory => write!(f, "drip: out of memory"),
         }
     }
 }
 
 impl Error for Misuse<'_> {}
-
-// The text of a kind's labels, for whoever wrote another.
-impl fmt::Display for Kind {
-    fn fmt<W: fmt::Write>(&self, f: &mut fmt::Formatter<W>) -> fmt::Result {
-        match *self {
-            Kind::One(kind) => write!(f, "{kind}"),
-            Kind::Pair(left, right) => write!(
-                f,
-                "a pair: {left}, and behind it without a space {right}"
-            ),
-        }
-    }
-}
-
-impl fmt::Display for KindName {
-    fn fmt<W: fmt::Write>(&self, f: &mut fmt::Formatter<W>) -> fmt::Result {
-        match *self {
-            KindName::Levels => write!(f, "a level, one digit from 0 to 7"),
-            KindName::Growers => write!(f, "growers, four hexadecimal digits in lower case"),
-        }
-    }
-}
 
 impl<T: Drop> From<AllocFailed<T>> for Misuse<'_> {
     fn from(_e: AllocFailed<T>) -> Self {

@@ -1,6 +1,6 @@
 // What is wrong with a file of questions, as it is told on standard error. It borrows the line or the error that it
 // tells of, so it is told where it comes up, and is never returned as an error itself.
-use crate::command::Kind;
+use sheets::Kind;
 use std::{fmt, io};
 use text::Fault;
 

@@ -1,11 +1,10 @@
 // `drip demo`: two growers on one drip line, told as a short tutorial, from making their station to reading its log.
-use crate::Failure;
-use crate::calls::{Answered, Call, Reply};
-use crate::readings::Logged;
-use crate::site::{Parts, Site};
+use crate::{Console, Failure};
 use labels::Growers;
 use machine::{Entry, Labelled, Operation};
-use rules::{Cached, RowTable};
+use policies::{AnyPolicy, PolicyName};
+use readings::Logged;
+use sites::{Answered, Call, Making, Parts, Reply, Site};
 use std::alloc::{AllocError, Global};
 use std::io;
 
@@ -25,10 +24,11 @@ In each round the station's program puts out three commands: a fixed flush,
 grower 0's own dose from cell 0, and the sum of cells 0 and 1, which it also
 keeps in cell 2. To load a cell it calls a small subroutine.";
 
-// The station of the two growers. Its policy is the one that `drip rules` asks unless another is picked.
-type SharedSite = Site<Cached<RowTable, Growers>, Growers>;
+// The station of the two growers.
+type SharedSite = Site<AnyPolicy<Growers>, Growers>;
 
 // Why the story ends early.
+#[derive(Drop)]
 enum Early {
     // The station's state takes no such call.
     NotTaken(SharedSite),
@@ -41,30 +41,31 @@ impl From<io::Error> for Early {
     }
 }
 
-// One run of `drip demo`: where it writes.
-#[derive(Clone, Copy)]
-pub struct Demo<'a> {
-    rt: &'a HostRuntime,
+// One run of `drip demo`: where it writes, and the policy of its station.
+#[derive(Drop)]
+pub struct Demo<'c, 'a> {
+    console: &'c mut Console<'a>,
+    policy: PolicyName,
 }
 
-impl<'a> Demo<'a> {
-    pub fn new(rt: &'a HostRuntime) -> Demo<'a> {
-        Demo { rt }
+impl<'c, 'a> Demo<'c, 'a> {
+    pub fn new(console: &'c mut Console<'a>, policy: PolicyName) -> Demo<'c, 'a> {
+        Demo { console, policy }
     }
 
     // Tells the story of the station, to its end or to a call that the station does not take, and then the station's state.
-    pub fn show(self) -> Result<(), Failure> {
+    pub fn show(&mut self) -> Result<(), Failure> {
         self.tell(OPENING)?;
         self.tell("The station is made of that program, three cells, a stack and a log.")?;
-        let policy = Cached::new(RowTable::new::<Growers>());
-        let site = match Site::make(parts(self.rt.alloc())?, policy) {
+        let policy = AnyPolicy::named(self.policy);
+        let site = match Site::make(parts(self.console.heap())?, policy) {
             Ok(site) => site,
             Err(why) => {
-                self.print_answer(Call::Make, Reply::Refused(why))?;
+                self.console.line(Making(Some(why)))?;
                 return Ok(());
             }
         };
-        self.print_answer(Call::Make, Reply::Made)?;
+        self.console.line(Making(None))?;
         let site = match self.play(site) {
             Ok(site) => site,
             Err(Early::NotTaken(site)) => {
@@ -74,19 +75,19 @@ impl<'a> Demo<'a> {
             }
             Err(Early::Failed(failure)) => return Err(failure),
         };
-        println!(self.rt; "state {}", site.state())?;
+        self.console.line(format_args!("state {}", site.state()))?;
         Ok(())
     }
 
     // The story of a station that is made.
-    fn play(self, site: SharedSite) -> Result<SharedSite, Early> {
+    fn play(&mut self, site: SharedSite) -> Result<SharedSite, Early> {
         let site = self.play_readings(site)?;
         let site = self.play_first_round(site)?;
         let site = self.play_questions(site)?;
         self.play_second_round(site)
     }
 
-    fn play_readings(self, site: SharedSite) -> Result<SharedSite, Early> {
+    fn play_readings(&mut self, site: SharedSite) -> Result<SharedSite, Early> {
         self.tell("Each grower's reading is entered into a cell, with that grower's label.")?;
         let site = self.call(site, enter(0, 40, GROWER_0))?;
         let site = self.call(site, enter(1, 25, GROWER_1))?;
@@ -95,7 +96,7 @@ impl<'a> Demo<'a> {
         self.call(site, look(0, GROWER_1))
     }
 
-    fn play_first_round(self, site: SharedSite) -> Result<SharedSite, Early> {
+    fn play_first_round(&mut self, site: SharedSite) -> Result<SharedSite, Early> {
         self.tell("A round starts. The first go has fuel for three steps, which is too little.")?;
         let site = self.call(site, Call::Start)?;
         let site = self.call(site, Call::Go { fuel: 3 })?;
@@ -106,7 +107,7 @@ impl<'a> Demo<'a> {
         Ok(site)
     }
 
-    fn play_questions(self, site: SharedSite) -> Result<SharedSite, Early> {
+    fn play_questions(&mut self, site: SharedSite) -> Result<SharedSite, Early> {
         self.tell(
             "The next command for whoever is cleared for grower 1 alone (0002): the flush,
 and then none, since the other two can carry grower 0's reading.",
@@ -118,7 +119,7 @@ and then none, since the other two can carry grower 0's reading.",
         self.call(site, next_command(2, BOTH))
     }
 
-    fn play_second_round(self, site: SharedSite) -> Result<SharedSite, Early> {
+    fn play_second_round(&mut self, site: SharedSite) -> Result<SharedSite, Early> {
         self.tell("Between two rounds a new reading may be entered, here grower 1's.")?;
         let site = self.call(site, enter(1, 30, GROWER_1))?;
         self.tell("The second round goes to its end at once.")?;
@@ -132,25 +133,22 @@ and then none, since the other two can carry grower 0's reading.",
     }
 
     // Makes a call and prints it with its answer. One that the station does not take ends the story.
-    fn call(self, site: SharedSite, call: Call<Growers>) -> Result<SharedSite, Early> {
+    fn call(&mut self, site: SharedSite, call: Call<Growers>) -> Result<SharedSite, Early> {
         let (site, reply) = site.call(call);
-        self.print_answer(call, reply)?;
+        self.console.line(Answered { call, reply })?;
         match reply {
             Reply::NotTaken(_) => Err(Early::NotTaken(site)),
             _ => Ok(site),
         }
     }
 
-    fn print_answer(self, call: Call<Growers>, reply: Reply<Growers>) -> io::Result<()> {
-        self.rt.println(Answered { call, reply })
-    }
-
     // Prints the commands so far, and whose readings each can carry.
-    fn print_commands(self, site: &SharedSite) -> io::Result<()> {
+    fn print_commands(&mut self, site: &SharedSite) -> io::Result<()> {
         let commands = site.commands();
-        println!(self.rt; "commands {}", commands.len())?;
+        self.console
+            .line(format_args!("commands {}", commands.len()))?;
         for (place, command) in commands.iter().enumerate() {
-            self.rt.println(Logged {
+            self.console.line(Logged {
                 place,
                 command: *command,
             })?;
@@ -159,9 +157,9 @@ and then none, since the other two can carry grower 0's reading.",
     }
 
     // Prints what is told between the calls, each line behind a `#`.
-    fn tell(self, text: &str) -> io::Result<()> {
+    fn tell(&mut self, text: &str) -> io::Result<()> {
         for line in text.lines() {
-            println!(self.rt; "# {line}")?;
+            self.console.line(format_args!("# {line}"))?;
         }
         Ok(())
     }

@@ -1,12 +1,12 @@
-use std::alloc::AllocError;
+use std::alloc::{AllocError, AllocFailed};
 use std::io;
 
-// Why the program ends with status 1. Option<io::Error> has the same values, but would not say what its None means.
+// Why the program ends with status 1.
 #[derive(Debug, Drop)]
 pub enum Failure {
-    // What is wrong was told on standard error.
+    // What is wrong was told.
     Told,
-    // There was no memory, or nothing could be written.
+    // The arguments are no text, there was no memory, or nothing could be written.
     Io(io::Error),
 }
 
@@ -19,5 +19,11 @@ impl From<io::Error> for Failure {
 impl From<AllocError> for Failure {
     fn from(e: AllocError) -> Failure {
         Failure::Io(io::Error::from(e))
+    }
+}
+
+impl<T: Drop> From<AllocFailed<T>> for Failure {
+    fn from(_e: AllocFailed<T>) -> Failure {
+        Failure::from(AllocError)
     }
 }

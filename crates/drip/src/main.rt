@@ -1,71 +1,64 @@
 // drip: the installer's program.
 #![tactic(auto)]
 
-mod calls;
 mod command;
+mod comparison;
 mod complaint;
+mod console;
 mod demo;
 mod failure;
+mod help;
+mod key;
+mod kinds;
+mod operations;
 mod questions;
-mod readings;
-mod site;
+mod sheet_file;
+mod side_by_side;
+mod stations;
+mod table;
+mod trace;
 
 use command::Command;
+use console::Console;
 use demo::Demo;
 use failure::Failure;
-use questions::RulesRun;
+use stations::View;
+use std::env;
 use std::process::ExitCode;
-use std::{env, io};
 
-const USAGE: &str =
-    "drip answers for stations on a shared drip line: whose readings may reach which valve.
-
-usage:
-  drip rules KIND FILE [--policy direct|rows|cached]
-  drip demo
-  drip help
-
-drip rules answers the questions in FILE, one a line, by the published rows.
-  KIND    levels, growers, or two of them for a pair, as: levels growers
-  FILE    the file of questions, or - for standard input
-  A question is OPERATION P A B C: an operation, the label P of the program
-  counter, and the labels A, B and C of what it works on. Labels left out at the
-  end are the lowest. A level is one digit from 0 to 7; growers are four
-  hexadecimal digits in lower case, grower 0 the lowest bit; a pair is the left
-  text and the right one behind it, without a space. # starts a comment.
-  --policy picks who answers: the rows worked out directly, the rows read off a
-  table, or (if nothing is said) a cache over that table. The answers are the same.
-
-drip demo shows a station of two growers at work, each call with its answer.
-
-example:
-  $ echo 'store 1 2 0 5' | drip rules levels -
-  store 1 2 0 5: pc 1, result 2
-
-What is wrong is told on standard error as FILE:LINE: what is wrong, and what was
-expected; LINE is 0 where it is in no line of FILE. The status is then 1.
-";
-
-fn main(rt: HostRuntime) -> Result<ExitCode, io::Error> {
+fn main(rt: HostRuntime) -> ExitCode {
     match run(&rt) {
-        Ok(()) => Ok(ExitCode::SUCCESS),
-        Err(Failure::Told) => Ok(ExitCode::FAILURE),
-        Err(Failure::Io(e)) => Err(e),
+        Ok(()) => ExitCode::SUCCESS,
+        Err(Failure::Told) => ExitCode::FAILURE,
+        Err(Failure::Io(why)) => {
+            // Where not even this can be told, the status alone tells it.
+            let _ = eprintln!(rt;
+                "drip: {why}; expected arguments in UTF-8, memory, and an output that takes what is written"
+            );
+            ExitCode::FAILURE
+        }
     }
 }
 
 fn run(rt: &HostRuntime) -> Result<(), Failure> {
     let words: Vec<String> = env::args(rt)?.skip(1).collect(rt.alloc())?;
-    match Command::parse(rt.alloc(), words.as_slice()) {
-        Ok(Command::Help) => {
-            rt.print(USAGE)?;
-            Ok(())
-        }
-        Ok(Command::Rules(asked)) => RulesRun::new(rt, asked).answer(),
-        Ok(Command::Demo) => Demo::new(rt).show(),
-        Err(misuse) => {
-            eprintln!(rt; "{misuse}")?;
-            Err(Failure::Told)
-        }
+    let mut console = Console::new(rt)?;
+    let outcome = perform(words.as_slice(), &mut console);
+    console.flush()?;
+    outcome
+}
+
+// Does what the words after the program's own name say.
+fn perform(words: &[String], console: &mut Console<'_>) -> Result<(), Failure> {
+    match Command::parse(console.heap(), words) {
+        Ok(Command::Run(asked)) => stations::show(asked, View::Run, console),
+        Ok(Command::Key(asked)) => stations::show(asked, View::Key, console),
+        Ok(Command::Trace(asked)) => stations::show(asked, View::Trace, console),
+        Ok(Command::Compare(asked)) => comparison::show(asked, console),
+        Ok(Command::Rules(asked)) => questions::show(asked, console),
+        Ok(Command::Demo(policy)) => Demo::new(console, policy).show(),
+        Ok(Command::Help(name)) => Ok(console.print(help::page(name))?),
+        Ok(Command::Version) => Ok(console.line(help::VERSION)?),
+        Err(misuse) => Err(console.complain(misuse)),
     }
 }

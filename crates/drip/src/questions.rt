@@ -2,11 +2,14 @@
 ghost use Rattle.rules.specs.Tables.{published};
 ghost use Rattle.text.specs.Answers.{Answers, ByTable};
 
-use crate::Failure;
-use crate::command::{Kind, KindName, PolicyName, Rules};
+use crate::command::Rules;
 use crate::complaint::{Complaint, Problem};
-use labels::{Growers, Label, Level, Pair};
-use rules::{Cached, Direct, Policy, RowTable};
+use crate::kinds::{self, Task};
+use crate::{Console, Failure};
+use labels::Label;
+use policies::AnyPolicy;
+use readings::Readings;
+use rules::Policy;
 use std::fs::File;
 use std::io::{BufRead, BufReader, Read};
 use std::marker::{Model, PhantomData};
@@ -46,104 +49,69 @@ impl<P: Policy<L>, L: Label> Faithful<P, L> {
     }
 }
 
-// One run of `drip rules`: where it reads and writes, and what is asked.
-#[derive(Clone, Copy)]
-pub struct RulesRun<'a> {
-    rt: &'a HostRuntime,
-    asked: Rules<'a>,
+// Labels of one kind, and the policy that is asked.
+type Asked<L> = Faithful<AnyPolicy<L>, L>;
+
+// Answers what is asked, with labels of the kind that is asked for.
+pub fn show(asked: Rules<'_>, console: &mut Console<'_>) -> Result<(), Failure> {
+    kinds::perform(asked.kind, asked, console)
 }
 
-impl<'a> RulesRun<'a> {
-    pub fn new(rt: &'a HostRuntime, asked: Rules<'a>) -> RulesRun<'a> {
-        RulesRun { rt, asked }
-    }
-
-    // Answers what is asked, with labels of the kind that is asked for. A kind of label is a type, and so is a policy below, so each
-    // is named in a match. A `dyn` Policy<L> in place of the types gets no proof yet, since its trait has a parameter.
-    pub fn answer(self) -> Result<(), Failure> {
-        match self.asked.kind {
-            Kind::One(KindName::Levels) => self.answer_labelled::<Level>(),
-            Kind::One(KindName::Growers) => self.answer_labelled::<Growers>(),
-            Kind::Pair(KindName::Levels, KindName::Levels) => {
-                self.answer_labelled::<Pair<Level, Level>>()
-            }
-            Kind::Pair(KindName::Levels, KindName::Growers) => {
-                self.answer_labelled::<Pair<Level, Growers>>()
-            }
-            Kind::Pair(KindName::Growers, KindName::Levels) => {
-                self.answer_labelled::<Pair<Growers, Level>>()
-            }
-            Kind::Pair(KindName::Growers, KindName::Growers) => {
-                self.answer_labelled::<Pair<Growers, Growers>>()
-            }
+impl Task for Rules<'_> {
+    fn perform<L: Readings>(self, console: &mut Console<'_>) -> Result<(), Failure> {
+        let policy = Faithful::new(AnyPolicy::<L>::named(self.policy));
+        if self.file == "-" {
+            let input = console.runtime().stdin();
+            return self.answer_lines(policy, input, console);
+        }
+        match File::open(console.runtime(), self.file) {
+            Ok(file) => self.answer_lines(policy, file, console),
+            Err(e) => Err(self.told(0, Problem::Unopened(&e), console)),
         }
     }
+}
 
-    fn answer_labelled<L: Label>(self) -> Result<(), Failure> {
-        match self.asked.policy {
-            PolicyName::Direct => self.answer_by(Faithful::<_, L>::new(Direct::new::<L>())),
-            PolicyName::Rows => self.answer_by(Faithful::<_, L>::new(RowTable::new::<L>())),
-            PolicyName::Cached => {
-                let policy = Cached::new(RowTable::new::<L>());
-                self.answer_by(Faithful::<_, L>::new(policy))
-            }
-        }
-    }
-
-    fn answer_by<P: Policy<L> + Drop, L: Label>(
+impl Rules<'_> {
+    fn answer_lines<L: Label, R: Read + Drop>(
         self,
-        policy: Faithful<P, L>,
-    ) -> Result<(), Failure> {
-        if self.asked.file == "-" {
-            return self.answer_lines(policy, self.rt.stdin());
-        }
-        let file = File::open(self.rt, self.asked.file).map_err(|e| self.told(
-            0,
-            Problem::Unopened(&e),
-        ))?;
-        self.answer_lines(policy, file)
-    }
-
-    fn answer_lines<P: Policy<L> + Drop, L: Label, R: Read + Drop>(
-        self,
-        mut policy: Faithful<P, L>,
+        mut policy: Asked<L>,
         reader: R,
+        console: &mut Console<'_>,
     ) -> Result<(), Failure> {
-        let lines = BufReader::new(self.rt.alloc(), reader)?.lines(self.rt.alloc());
+        let heap = console.heap();
+        let lines = BufReader::new(heap, reader)?.lines(heap);
         for (number, line) in (1u64..).zip(lines) {
-            let line = line.map_err(|e| self.told(number, Problem::Unread(&e)))?;
-            self.answer_one(&mut policy, number, line.as_str())?;
+            match line {
+                Ok(line) => self.answer_one(&mut policy, number, line.as_str(), console)?,
+                Err(e) => return Err(self.told(number, Problem::Unread(&e), console)),
+            }
         }
         Ok(())
     }
 
-    fn answer_one<P: Policy<L>, L: Label>(
+    fn answer_one<L: Label>(
         self,
-        policy: &mut Faithful<P, L>,
+        policy: &mut Asked<L>,
         number: u64,
         line: &str,
+        console: &mut Console<'_>,
     ) -> Result<(), Failure> {
-        let answer = policy.answer(line).map_err(|fault| self.told(
-            number,
-            Problem::NoQuestion(fault, self.asked.kind),
-        ))?;
-        if let Some(answer) = answer {
-            self.rt.println(answer)?;
+        match policy.answer(line) {
+            Ok(None) => Ok(()),
+            Ok(Some(answer)) => {
+                console.line(answer)?;
+                Ok(())
+            }
+            Err(fault) => Err(self.told(number, Problem::NoQuestion(fault, self.kind), console)),
         }
-        Ok(())
     }
 
     // Tells what is wrong on standard error.
-    fn told(self, line: u64, problem: Problem<'_>) -> Failure {
-        let file = self.asked.file;
-        let complaint = Complaint {
-            file,
+    fn told(self, line: u64, problem: Problem<'_>, console: &mut Console<'_>) -> Failure {
+        console.complain(Complaint {
+            file: self.file,
             line,
             problem,
-        };
-        match self.rt.eprintln(complaint) {
-            Ok(()) => Failure::Told,
-            Err(e) => Failure::Io(e),
-        }
+        })
     }
 }

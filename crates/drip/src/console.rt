@@ -1,0 +1,65 @@
+// Where the program reads and writes: files and standard input, standard output through a buffer, standard error.
+use crate::Failure;
+use std::alloc::Global;
+use std::fmt::Display;
+use std::io::{BufWriter, Printer, Read, Write};
+use std::{fs, io};
+
+#[derive(Drop)]
+pub struct Console<'a> {
+    rt: &'a HostRuntime,
+    out: BufWriter<Printer<'a, HostRuntime>>,
+}
+
+impl<'a> Console<'a> {
+    pub fn new(rt: &'a HostRuntime) -> io::Result<Console<'a>> {
+        let out = BufWriter::new(rt.alloc(), io::writer(rt))?;
+        Ok(Console { rt, out })
+    }
+
+    pub fn runtime(&self) -> &'a HostRuntime {
+        self.rt
+    }
+
+    pub fn heap(&self) -> Global {
+        self.rt.alloc()
+    }
+
+    // Writes a text.
+    pub fn print<T: Display + Drop>(&mut self, text: T) -> io::Result<()> {
+        write!(self.out, "{text}")
+    }
+
+    // Writes a line.
+    pub fn line<T: Display + Drop>(&mut self, line: T) -> io::Result<()> {
+        writeln!(self.out, "{line}")
+    }
+
+    // Writes what is still in the buffer.
+    pub fn flush(&mut self) -> io::Result<()> {
+        self.out.flush()
+    }
+
+    // Tells what is wrong on standard error, behind what is written so far.
+    pub fn complain<T: Display + Drop>(&mut self, wrong: T) -> Failure {
+        match self.tell(wrong) {
+            Ok(()) => Failure::Told,
+            Err(e) => Failure::Io(e),
+        }
+    }
+
+    fn tell<T: Display + Drop>(&mut self, wrong: T) -> io::Result<()> {
+        self.flush()?;
+        self.rt.eprintln(wrong)
+    }
+
+    // All bytes of a file, or of standard input if its name is `-`.
+    pub fn read(&self, file: &str) -> io::Result<Vec<u8>> {
+        if file != "-" {
+            return fs::read(self.rt, file);
+        }
+        let mut bytes = Vec::new(self.heap());
+        self.rt.stdin().read_to_end(&mut bytes)?;
+        Ok(bytes)
+    }
+}
