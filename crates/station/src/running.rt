@@ -1,4 +1,6 @@
 // Goes: steps of a running station until its round finishes, is stopped or has no fuel left.
+ghost use Rattle.std.specs.Prelude.{◌≡◌};
+
 use crate::commands::next_command;
 use crate::lengths::{check_lengths, sizes_of};
 use crate::states::{Idle, Running, Shut, Station};
@@ -37,8 +39,26 @@ struct Ran {
     steps: u32,
 }
 
+// The same registers, taken field by field: a copy of the whole would carry the bytes between the fields through every step.
+fn by_fields<L: Copy>(registers: Registers<L>) -> Registers<L>
+    ensures { result ≡ registers }
+{
+    let Registers {
+        pc,
+        pc_label,
+        depth,
+        commands,
+    } = registers;
+    Registers {
+        pc,
+        pc_label,
+        depth,
+        commands,
+    }
+}
+
 impl<L: Label> Running<L> {
-    ghost use Rattle.std.specs.Prelude.{◌≡◌, List};
+    ghost use Rattle.std.specs.Prelude.{List};
     ghost use Rattle.station.specs.Lengths.{lengths};
     ghost use Rattle.station.specs.Goes.{Goes};
     ghost use Rattle.station.specs.Turns.{Turns, Runs, ended};
@@ -130,7 +150,7 @@ impl<L: Label> Running<L> {
             Ok(Outcome::Done(registers)) => {
                 *self = Running {
                     sizes: self.sizes,
-                    registers,
+                    registers: by_fields(registers),
                 };
                 None
             }
@@ -151,7 +171,10 @@ impl<L: Label> Running<L> {
                 commands: self.registers.commands,
                 labels: PhantomData,
             }),
-            End::OutOfFuel => Station::Running(self),
+            End::OutOfFuel => Station::Running(Running {
+                sizes: self.sizes,
+                registers: by_fields(self.registers),
+            }),
             End::Stopped(stop) => Station::Shut(Shut {
                 sizes: self.sizes,
                 commands: self.registers.commands,
@@ -164,8 +187,6 @@ impl<L: Label> Running<L> {
 }
 
 impl<L: Copy> Running<L> {
-    ghost use Rattle.std.specs.Prelude.{◌≡◌};
-
     // The place and label of the program counter, and how many entries of the stack and commands of the log are in use.
     pub fn registers(&self) -> Registers<L>
         ensures { result ≡ self.now.registers }

@@ -1,26 +1,20 @@
 -- Elements of a list by their places.
-use Rattle.std.proofs.Common.{◌≡◌, ℕ, zero, suc, ◌<◌, ◌≤◌, List, [], ◌∷◌, length, get_or, ℤ, pos, negsuc, nat_abs, Some, None, Option, Ok, Err, Result, sym, refl, ap, ◌∙◌, arith, w64, SFits, to_z, of_z}
+use Rattle.std.proofs.Common.{◌≡◌, ℕ, zero, suc, ◌<◌, ◌≤◌, List, [], ◌∷◌, length, get_or, ℤ, pos, negsuc, false, nat_abs, Some, None, Option, Ok, Err, Result, sym, refl, ap, ◌∙◌, arith, w64, SFits, to_z, of_z}
 use Rattle.std.proofs.lemmas.Int.{to_z-of_z}
-use Rattle.std.specs.Int.{FitsUnsignedBits}
-use Rattle.std.specs.Result.{OkIff, result_ok}
-use Rattle.std.specs.Option.{ok_or}
+use Rattle.std.specs.Int.Signed.{lt_z}
 use Rattle.machine.specs.Steps.{stopped, element, at_place}
 use Rattle.machine.specs.declared.answers.Stop.TheVariants.{OutsideMemory}
 use Rattle.machine.specs.declared.parts.Labelled.{Labelled}
-use Rattle.steps.specs.Walks.{Finds, FindsCell}
+use Rattle.steps.specs.Walks.{FindsCell}
 use Rattle.steps.specs.declared.walks.Found.{Found}
 
--- A place that was converted to an index is that index.
-pub index_is : {E : Type 0} (place : ℤ) (index : ℕ) (r : Result ℕ E) → SFits w64 place → OkIff r (FitsUnsignedBits 64 (to_z w64 (of_z w64 place))) (nat_abs (to_z w64 (of_z w64 place))) → Some index ≡ result_ok r → place ≡ pos index
-index_is place index (Err e) fits converted ok = let z : ◌≡◌ {A = ℕ} 0 1 = cc in absurd (omega arith)
-index_is place index (Ok n) fits converted ok =
-    let same_index : index ≡ n = cc in
-    let z = to_z w64 (of_z w64 place) in
-    sym (to_z-of_z w64 place fits) ∙ same z converted.0 ∙ ap pos (sym (same_index ∙ converted.1))
+-- A place that is not negative is the index that it is cast to.
+pub index_is : (place : ℤ) → SFits w64 place → lt_z (to_z w64 (of_z w64 place)) (pos 0) ≡ false → place ≡ pos (nat_abs (to_z w64 (of_z w64 place)))
+index_is place fits least = sym (to_z-of_z w64 place fits) ∙ same (to_z w64 (of_z w64 place)) least
   where
-    same : (z : ℤ) → FitsUnsignedBits 64 z → z ≡ pos (nat_abs z)
-    same (pos n) fits = refl
-    same (negsuc n) none = absurd none
+    same : (z : ℤ) → lt_z z (pos 0) ≡ false → z ≡ pos (nat_abs z)
+    same (pos n) least = refl
+    same (negsuc n) least = let no : ⊥ = cc in absurd no
 
 module _ {A : Type 0} where
   pub element_read : (xs : List A) (i : ℕ) (x : A) → i < length xs → x ≡ get_or xs i x → element xs i None Some ≡ Some x
@@ -53,10 +47,15 @@ module _ {A : Type 0} where
     place_none xs (pos i) found = element_none xs i found
     place_none xs (negsuc i) found = refl
 
-pub finds_cell : {L : Type 0} (memory : List (Labelled L)) (place address : ℤ) (o : Option (Found (Labelled L))) → place ≡ address → Finds memory place o → FindsCell memory address (ok_or o OutsideMemory)
-finds_cell memory place address None same found = λ then. place_none (stopped OutsideMemory) then memory address (ap (λ p. at_place memory p None Some) (sym same) ∙ found)
-finds_cell memory place address (Some x) same found = (
-  sym same ∙ found.0,
-  found.1,
-  λ then. place_there (stopped OutsideMemory) then memory address x.element (ap (λ p. at_place memory p None Some) (sym same) ∙ found.2),
-)
+-- What was found at an address is the cell there.
+module _ {L : Type 0} (memory : List (Labelled L)) (place address : ℤ) (same : place ≡ address) where
+  pub finds_cell : (index : ℕ) (cell : Labelled L) → (place ≡ pos index) × (index < length memory) × (at_place memory place None Some ≡ Some cell)
+      → FindsCell memory address (Ok (record { index = index; element = cell }))
+  finds_cell index cell found = (
+    sym same ∙ found.0,
+    found.1,
+    λ then. place_there (stopped OutsideMemory) then memory address cell (ap (λ p. at_place memory p None Some) (sym same) ∙ found.2),
+  )
+
+  pub finds_no_cell : at_place memory place None Some ≡ None → FindsCell memory address (Err OutsideMemory)
+  finds_no_cell found = λ then. place_none (stopped OutsideMemory) then memory address (ap (λ p. at_place memory p None Some) (sym same) ∙ found)

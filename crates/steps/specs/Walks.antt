@@ -1,4 +1,5 @@
 -- What the walks over the lent parts find. Assumes nothing.
+use Rattle.std.specs.Borrow.{Bor}
 use Rattle.std.specs.Prelude.{◌≡◌, ℕ, Bool, true, false, suc, ◌-◌, ◌<◌, List, [], ◌∷◌, reverse, length, take, ℤ, pos, Some, None, Ok, Err, Option, Result}
 use Rattle.machine.specs.Steps.{Outcome, stopped, at_place, taking, nearest_frame}
 use Rattle.machine.specs.declared.answers.Stop.{Stop}
@@ -14,9 +15,9 @@ abbrev pub newest : {A : Type 0} → ℕ → List A → List A
 newest n part = reverse (take n part)
 
 -- the element at a place and its index, or none outside
-abbrev pub Finds : {A : Type 0} → List A → ℤ → Option (Found A) → Type 0
+abbrev pub Finds : {A : Type 0} → List A → ℤ → Option (Found (Bor A)) → Type 0
 Finds part place None = at_place part place None Some ≡ None
-Finds part place (Some found) = (place ≡ pos found.index) × (found.index < length part) × (at_place part place None Some ≡ Some found.element)
+Finds part place (Some found) = (place ≡ pos found.index) × (found.index < length part) × (at_place part place None Some ≡ Some found.element.now)
 
 module _ {L : Type 0} where
   abbrev pub is_number : Entry L → Bool

@@ -11,7 +11,9 @@ ghost use Rattle.steps.specs.Operations.{labelled as labelled_with, registers as
 ghost use Rattle.steps.specs.Walks.{newest};
 
 use crate::registers::{Fetched, Registers};
-use crate::walks::{Found, find_cell, has_numbers, insert_under, nearest_frame, top_number};
+use crate::walks::{
+    Found, find_cell, has_numbers, insert_under, nearest_frame, top_number, write, write_entry,
+};
 use labels::Label;
 use machine::{Entry, Frame, Labelled, Stop};
 use rules::{Opcode, Policy, Request, Verdict};
@@ -66,12 +68,12 @@ impl<L: Label> Fetched<L> {
 
     pub fn push<P: Policy<L>>(
         self,
-        number: Labelled<L>,
+        number: &Labelled<L>,
         depth: usize,
         stack: &mut [Entry<L>],
         policy: &mut P,
     ) -> Result<Registers<L>, Stop>
-        ensures { (memory log : List (LabelledD L)) → self.commands ≤ length log → Does P.Policy.faithful policy.old policy.new memory memory stack.old stack.new log log (starting (placed self) depth) result (λ table setup. tried L.Label.kind table setup (Push number)) }
+        ensures { (memory log : List (LabelledD L)) → self.commands ≤ length log → Does P.Policy.faithful policy.old policy.new memory memory stack.old stack.new log log (starting (placed self) depth) result (λ table setup. tried L.Label.kind table setup (Push number.now)) }
     {
         if depth >= stack.len() {
             return Err(Stop::StackFull);
@@ -83,7 +85,7 @@ impl<L: Label> Fetched<L> {
                 ..request(self.pc_label, Opcode::Push)
             },
         )?;
-        stack[depth] = Entry::Number(relabelled(number, verdict.result));
+        write_entry(&mut stack[depth], relabelled(*number, verdict.result));
         Ok(self.next(verdict.pc, depth + 1))
     }
 
@@ -131,11 +133,12 @@ impl<L: Label> Fetched<L> {
                 ..request(self.pc_label, op)
             },
         )?;
-        // By its index: the entry is there, and `last_mut` would ask again whether it is.
-        used[depth - 1] = Entry::Number(Labelled {
+        let result = Labelled {
             value: rule(b.value, a.value),
             label: verdict.result,
-        });
+        };
+        // By its index: the entry is there, and `last_mut` would ask again whether it is.
+        write_entry(&mut used[depth - 1], result);
         Ok(self.next(verdict.pc, depth))
     }
 
@@ -159,7 +162,7 @@ impl<L: Label> Fetched<L> {
         )?;
         let depth = used.len();
         // By its index: the entry is there, and `last_mut` would ask again whether it is.
-        used[depth - 1] = Entry::Number(relabelled(cell, verdict.result));
+        write_entry(&mut used[depth - 1], relabelled(cell, verdict.result));
         Ok(self.next(verdict.pc, depth))
     }
 
@@ -187,7 +190,7 @@ impl<L: Label> Fetched<L> {
                 ..request(self.pc_label, Opcode::Store)
             },
         )?;
-        memory[index] = relabelled(b, verdict.result);
+        write(&mut memory[index], relabelled(b, verdict.result));
         Ok(self.next(verdict.pc, depth - 1))
     }
 
@@ -261,7 +264,7 @@ impl<L: Label> Fetched<L> {
                 ..request(self.pc_label, Opcode::Output)
             },
         )?;
-        log[self.commands] = relabelled(a, verdict.result);
+        write(&mut log[self.commands], relabelled(a, verdict.result));
         let logged = Fetched {
             commands: self.commands + 1,
             ..self
@@ -328,7 +331,7 @@ impl<L: Label> Registers<L> {
                 ..request(self.pc_label, Opcode::Return)
             },
         )?;
-        used[index] = Entry::Number(relabelled(a, verdict.result));
+        write_entry(&mut used[index], relabelled(a, verdict.result));
         Ok(Registers {
             pc: frame.place,
             pc_label: verdict.pc,

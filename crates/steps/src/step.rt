@@ -34,7 +34,7 @@ impl<L: Label> Registers<L> {
     // What an operation comes to: a halt with or without fuel, any other with fuel only.
     fn attempt<P: Policy<L>>(
         self,
-        op: Operation<L>,
+        op: &Operation<L>,
         memory: &mut [Labelled<L>],
         stack: &mut [Entry<L>],
         log: &mut [Labelled<L>],
@@ -44,7 +44,7 @@ impl<L: Label> Registers<L> {
         requires in_program { InProgram self.pc }
         requires stack_holds { self.depth ≤ length stack.old }
         requires log_holds { self.commands ≤ length log.old }
-        ensures { Attempted L.Label.kind P.Policy.faithful policy.old policy.new op memory.old memory.new stack.old stack.new log.old log.new fuel self result }
+        ensures { Attempted L.Label.kind P.Policy.faithful policy.old policy.new op.now memory.old memory.new stack.old stack.new log.old log.new fuel self result }
     {
         if fuel == 0 && !matches!(op, Operation::Halt) {
             return Ok(Outcome::Later);
@@ -74,8 +74,8 @@ impl<L: Label> Registers<L> {
             Operation::Load => fetched.load(memory, used, policy),
             Operation::Store => fetched.store(memory, used, policy),
             Operation::Jump => self.jump(used, policy),
-            Operation::Bnz(by) => fetched.bnz(by, used, policy),
-            Operation::Call { count, due } => fetched.call(count, due, used, policy),
+            Operation::Bnz(by) => fetched.bnz(*by, used, policy),
+            Operation::Call { count, due } => fetched.call(*count, *due, used, policy),
             Operation::Return => self.return_to_frame(used, policy),
             Operation::Output => fetched.output(used, log, policy),
         };

@@ -1,6 +1,7 @@
 // Walks over the lent parts: an element by its place, the numbers on top of the entries in use, their nearest frame.
 ghost use Rattle.std.specs.Prelude.{◌≡◌, ◌-◌, ◌<◌, ◌∷◌, ◌++◌, reverse, length, take, drop, nat_le};
 ghost use Rattle.std.specs.List.{list_all};
+ghost use Rattle.machine.specs.declared.parts.Entry.TheVariants.{Number};
 ghost use Rattle.steps.specs.Walks.{newest, is_number, numbers_on_top, Takes, FindsFrame, Finds, FindsCell};
 
 use machine::{Entry, Frame, Labelled, Stop};
@@ -13,11 +14,14 @@ pub struct Found<T> {
 }
 
 // The element at a place, which may be outside.
-pub fn find<T: Copy>(part: &[T], place: i64) -> Option<Found<T>>
+pub fn find<T>(part: &[T], place: i64) -> Option<Found<&T>>
     ensures { Finds part.now place result }
 {
-    let index = usize::try_from(place).ok()?;
-    let element = *part.get(index)?;
+    if place < 0 {
+        return None;
+    }
+    let index = place as usize;
+    let element = part.get(index)?;
     Some(Found { index, element })
 }
 
@@ -28,7 +32,13 @@ pub fn find_cell<L: Copy>(
 ) -> Result<Found<Labelled<L>>, Stop>
     ensures { FindsCell memory.now address.value result }
 {
-    find(memory, i64::from(address.value)).ok_or(Stop::OutsideMemory)
+    match find(memory, i64::from(address.value)) {
+        Some(Found { index, element }) => Ok(Found {
+            index,
+            element: read(element),
+        }),
+        None => Err(Stop::OutsideMemory),
+    }
 }
 
 // The top number, which must lie above the nearest frame.
@@ -36,8 +46,36 @@ pub fn top_number<L: Copy>(used: &[Entry<L>]) -> Result<Labelled<L>, Stop>
     ensures { Takes used.now (length used.now) result }
 {
     match used.last() {
-        Some(Entry::Number(number)) => Ok(*number),
+        Some(Entry::Number(number)) => Ok(read(number)),
         _ => Err(Stop::TooFewNumbers),
+    }
+}
+
+// Reads a number by its fields, and not as one block of bytes: in a part the fields are written one by one.
+fn read<L: Copy>(number: &Labelled<L>) -> Labelled<L>
+    ensures { result ≡ number.now }
+{
+    Labelled {
+        value: number.value,
+        label: number.label,
+    }
+}
+
+// Writes a number by its fields.
+pub fn write<L: Copy>(place: &mut Labelled<L>, number: Labelled<L>)
+    ensures { place.new ≡ number }
+{
+    place.value = number.value;
+    place.label = number.label;
+}
+
+// Writes a number in an entry's place. Where a number stands, its fields are enough: a whole entry has room for a frame.
+pub fn write_entry<L: Copy>(entry: &mut Entry<L>, number: Labelled<L>)
+    ensures { entry.new ≡ Number number }
+{
+    match entry {
+        Entry::Number(place) => write(place, number),
+        Entry::Frame(_) => *entry = Entry::Number(number),
     }
 }
 

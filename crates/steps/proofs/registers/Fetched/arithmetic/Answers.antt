@@ -42,5 +42,5 @@ returns g c applied given free memory log room =
     let written = newest_put used (n - 1) (n - 1 - 1) refl (omega arith) (omega arith) in
     used_does (placed c.args.self) used free _ c.next.ensures asks.still (length-set _ _ _) (omega arith) room
     (λ table true setup _.
-    done_stack (written ∙ ap (λ v. Number (v at c.in_ok-verdict.verdict.result) ∷ newest (n - 1 - 1) used) value)
+    done_stack (written ∙ ap (λ e. e ∷ newest (n - 1 - 1) used) c.write_entry.ensures ∙ ap (λ v. Number (v at c.in_ok-verdict.verdict.result) ∷ newest (n - 1 - 1) used) value)
     ∙ sym (a.1 _ ∙ b.1 _ ∙ asks.holds table true _))

@@ -29,5 +29,5 @@ returns g c free log room =
     let written = newest_put used n (n - 1) refl (omega arith) (omega arith) in
     used_does (placed c.args.self) c.args.used.now free _ c.next.ensures asks.still (length-set _ _ _) (omega arith) room
     (λ table true setup _.
-    done_stack (written ∙ ap (λ v. Number v ∷ newest (n - 1) used) c.relabelled.ensures)
+    done_stack (written ∙ ap (λ e. e ∷ newest (n - 1) used) c.write_entry.ensures ∙ ap (λ v. Number v ∷ newest (n - 1) used) c.relabelled.ensures)
     ∙ sym (a.1 _ ∙ c.in_ok-cell.ensures.2 _ ∙ asks.holds table true _))

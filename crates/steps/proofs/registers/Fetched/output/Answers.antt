@@ -34,5 +34,5 @@ returns g c free memory room =
     used_does (placed c.args.self) c.args.used.now free _ c.next.ensures asks.still refl (omega arith) (omega arith)
     (λ table true setup logs.
     let more : length (take n log) < setup.sizes.log = omega (arith, logs, length-take-le n log (omega arith)) in
-    done_commands (take_more_set log n c.relabelled.result (omega arith) ∙ ap (λ v. take n log ++ v ∷ []) c.relabelled.ensures)
+    done_commands (take_more_set log n c.write.new.place (omega arith) ∙ ap (λ v. take n log ++ v ∷ []) (c.write.ensures ∙ c.relabelled.ensures))
     ∙ sym (a.1 _ ∙ with_room _ _ _ _ more ∙ asks.holds table true _))

@@ -43,5 +43,5 @@ returns g c free log room =
     let asks = asked (λ q. record q { a = c.in_ok-a.a.label; b = c.in_ok-b.b.label; c = c.in_ok-index.field-0.element.label }) (Ok c.in_ok-verdict.verdict) c.request.ensures c.in_ok-verdict.ensures in
     used_does (placed c.args.self) c.args.used.now free _ c.next.ensures asks.still refl (omega arith) room
     (λ table true setup _.
-    done_memory (ap (set memory c.in_ok-index.field-0.index) c.relabelled.ensures ∙ ap (λ place. set_place memory place value) (sym cell.0))
+    done_memory (ap (set memory c.in_ok-index.field-0.index) (c.write.ensures ∙ c.relabelled.ensures) ∙ ap (λ place. set_place memory place value) (sym cell.0))
     ∙ sym (a.1 _ ∙ b.1 _ ∙ cell.2 _ ∙ asks.holds table true _))

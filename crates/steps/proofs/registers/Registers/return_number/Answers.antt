@@ -2,8 +2,8 @@ use Rattle.std.proofs.Common.{◌+◌, ◌∷◌, refl, sym, ap, ◌∙◌, arit
 use Rattle.steps.proofs.Doing.{asked, used_hands_on, used_does, done_stack, done_place}
 use Rattle.steps.proofs.Stacks.{newest_put}
 use Rattle.steps.specs.Walks.{newest}
-use Rattle.machine.specs.declared.parts.Entry.TheVariants.{Number}
 use Rattle.std.proofs.lemmas.Int.{to_z-of_z}
+use Rattle.machine.specs.declared.parts.Entry.TheVariants.{Number}
 use Rattle.steps.proofs.registers.Registers.return_number.Goals as goal
 
 pub returns-in_err-a : goal.returns-in_err-a
@@ -26,5 +26,5 @@ returns g c free memory log room =
     used_does c.args.self c.args.used.now free _ refl asks.still (length-set _ _ _) (omega arith) room
     (λ table true setup _.
     done_place (to_z-of_z w64 c.args.frame.place fits)
-    ∙ done_stack (written ∙ ap (λ v. Number v ∷ newest index used) c.relabelled.ensures)
+    ∙ done_stack (written ∙ ap (λ e. e ∷ newest index used) c.write_entry.ensures ∙ ap (λ v. Number v ∷ newest index used) c.relabelled.ensures)
     ∙ sym (c.in_ok-a.ensures.1 _ ∙ asks.holds table true _))

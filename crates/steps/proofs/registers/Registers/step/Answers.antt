@@ -20,6 +20,6 @@ pub returns : goal.returns
 returns g c =
     let fits : SFits w64 c.args.self.pc = search rules in
     let found = rw c.in_ok-found.ensures.ok_part at c.find.ensures in
-    steps_attempted g.L.Label.kind c.args.self c.in_ok-found.found.element
+    steps_attempted g.L.Label.kind c.args.self c.in_ok-found.found.element.now
     (ap (λ place. at_place c.args.program.now place None Some) (sym (to_z-of_z w64 c.args.self.pc fits)) ∙ found.2)
     c.attempt.ensures
