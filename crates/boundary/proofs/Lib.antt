@@ -1,0 +1,2 @@
+mod Decoding
+mod Ends

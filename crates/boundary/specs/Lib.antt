@@ -1,0 +1,6 @@
+pub mod Calls
+pub mod Exports
+pub mod Labels
+pub mod Parts
+pub mod Plans
+pub mod Reports

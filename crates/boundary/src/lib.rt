@@ -1,0 +1,12 @@
+// The engine behind C functions on numbers, for programs that are not written in Rattle.
+#![tactic(auto)]
+
+mod calls;
+mod choices;
+mod codes;
+mod exports;
+mod faults;
+mod lists;
+mod parts;
+mod plans;
+mod reports;
