@@ -42,3 +42,9 @@ module _ {L : Type 0} where
         so_far ∙ ap (λ o. after_more (fuel - suc left) (settled s o (run_steps kind setup table left))) (sym came)
         ∙ ap (gone_to gone.station) (omega arith)
         ∙ ap (λ n. after_more (fuel - n) (run_steps kind setup table n s')) (omega arith)
+
+    -- Of a go that has no fuel left
+    pub rests : (fuel left : ℕ) (start s : Round L) (end : End) → run_steps kind setup table fuel start ≡ after_more (fuel - left) (run_steps kind setup table left s)
+        → left ≡ 0 → came_to (Some end) s ≡ step kind table setup 0 s → run_steps kind setup table fuel start ≡ gone_to (ended end s) fuel
+    rests fuel left start s end so_far none came =
+        so_far ∙ ap (λ n. after_more (fuel - n) (run_steps kind setup table n s)) none ∙ ap (after_more (fuel - 0)) (run_ends 0 s end came) ∙ ap (gone_to (ended end s)) (omega arith)

@@ -27,6 +27,12 @@ module _ {L : Type 0} where
   came_to (Some OutOfFuel) s = later
   came_to (Some (Stopped stop)) s = stopped stop
 
+  -- The end of a go with no fuel left, whatever the parts hold.
+  abbrev pub Rests : Kind L → List (Operation L) → Running L → End → Type 0
+  Rests kind program st end =
+      (table : Table L) (setup : Setup L) → setup.program ≡ program → (memory log : List (Labelled L)) (stack : List (Entry L))
+      → came_to (Some end) (round st.registers memory stack log) ≡ step kind table setup 0 (round st.registers memory stack log)
+
 module _ {P L : Type 0} (kind : Kind L) (faithful : P → Table L → Type 0) (policy policy' : P) (program : List (Operation L)) (memory memory' : List (Labelled L)) (stack stack' : List (Entry L)) (log log' : List (Labelled L)) (fuel : ℕ) (st : Running L) where
   -- One step of a go.
   pub record Turns (st' : Running L) (end : Option End) : Type 0 where

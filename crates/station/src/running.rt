@@ -1,5 +1,5 @@
 // Goes: steps of a running station until its round finishes, is stopped or has no fuel left.
-ghost use Rattle.std.specs.Prelude.{◌≡◌};
+ghost use Rattle.std.specs.Prelude.{◌≡◌, ◌≤◌};
 
 use crate::commands::next_command;
 use crate::lengths::{check_lengths, sizes_of};
@@ -58,10 +58,10 @@ fn by_fields<L: Copy>(registers: Registers<L>) -> Registers<L>
 }
 
 impl<L: Label> Running<L> {
-    ghost use Rattle.std.specs.Prelude.{List};
+    ghost use Rattle.std.specs.Prelude.{List, length};
     ghost use Rattle.station.specs.Lengths.{lengths};
     ghost use Rattle.station.specs.Goes.{Goes};
-    ghost use Rattle.station.specs.Turns.{Turns, Runs, ended};
+    ghost use Rattle.station.specs.Turns.{Turns, Runs, Rests, ended};
     ghost use Rattle.station.specs.Calls.{Asks};
     ghost use Rattle.station.specs.Views.{running_with, station_with, made_sizes};
     ghost use Rattle.steps.specs.Operations.{round};
@@ -118,7 +118,7 @@ impl<L: Label> Running<L> {
         ensures sizes { self.new.sizes ≡ self.old.sizes }
     {
         let mut left = fuel;
-        loop {
+        while left > 0 {
             if let Some(end) = self.step(program, memory, stack, log, policy, left) {
                 return Ran {
                     end,
@@ -126,6 +126,22 @@ impl<L: Label> Running<L> {
                 };
             }
             left -= 1;
+        }
+        Ran {
+            end: self.wait(program),
+            steps: fuel,
+        }
+    }
+
+    // The end that a step with no fuel left comes to.
+    fn wait(&self, program: &[Operation<L>]) -> End
+        requires program_fits { length program.now ≤ 4096 }
+        ensures { Rests L.Label.kind program.now self.now result }
+    {
+        match self.registers.step_without_fuel(program) {
+            Ok(Outcome::Finished) => End::Finished,
+            Ok(_) => End::OutOfFuel,
+            Err(stop) => End::Stopped(stop),
         }
     }
 

@@ -1,20 +1,14 @@
 -- Elements of a list by their places.
-use Rattle.std.proofs.Common.{◌≡◌, ℕ, zero, suc, ◌<◌, ◌≤◌, List, [], ◌∷◌, length, get_or, ℤ, pos, negsuc, false, nat_abs, Some, None, Option, Ok, Err, Result, sym, refl, ap, ◌∙◌, arith, w64, SFits, to_z, of_z}
-use Rattle.std.proofs.lemmas.Int.{to_z-of_z}
-use Rattle.std.specs.Int.Signed.{lt_z}
+use Rattle.std.proofs.Common.{◌≡◌, ℕ, zero, suc, ◌<◌, ◌≤◌, ◌^◌, List, [], ◌∷◌, length, get_or, ℤ, pos, negsuc, Some, None, Ok, Err, sym, refl, ap, ◌∙◌, arith, w64, SFits, of_z}
 use Rattle.machine.specs.Steps.{stopped, element, at_place}
 use Rattle.machine.specs.declared.answers.Stop.TheVariants.{OutsideMemory}
 use Rattle.machine.specs.declared.parts.Labelled.{Labelled}
 use Rattle.steps.specs.Walks.{FindsCell}
-use Rattle.steps.specs.declared.walks.Found.{Found}
 
--- A place that is not negative is the index that it is cast to.
-pub index_is : (place : ℤ) → SFits w64 place → lt_z (to_z w64 (of_z w64 place)) (pos 0) ≡ false → place ≡ pos (nat_abs (to_z w64 (of_z w64 place)))
-index_is place fits least = sym (to_z-of_z w64 place fits) ∙ same (to_z w64 (of_z w64 place)) least
-  where
-    same : (z : ℤ) → lt_z z (pos 0) ≡ false → z ≡ pos (nat_abs z)
-    same (pos n) least = refl
-    same (negsuc n) least = let no : ⊥ = cc in absurd no
+-- A place that is cast to an index within a part is that index: a negative one is cast to a number that no part is as long as.
+pub index_is : (place : ℤ) (long : ℕ) → SFits w64 place → long ≤ 2 ^ 63 → of_z w64 place < long → place ≡ pos (of_z w64 place)
+index_is (pos n) long fits most within = refl
+index_is (negsuc n) long fits most within = absurd (omega (arith, fits))
 
 module _ {A : Type 0} where
   pub element_read : (xs : List A) (i : ℕ) (x : A) → i < length xs → x ≡ get_or xs i x → element xs i None Some ≡ Some x
@@ -26,6 +20,10 @@ module _ {A : Type 0} where
   element_past [] i else then past = refl
   element_past (y ∷ xs) zero else then past = absurd (omega arith)
   element_past (y ∷ xs) (suc i) else then past = element_past xs i else then (omega arith)
+
+  pub place_past : (xs : List A) (place : ℤ) → length xs ≤ of_z w64 place → at_place xs place None Some ≡ None
+  place_past xs (pos i) past = element_past xs i None Some past
+  place_past xs (negsuc i) past = refl
 
   module _ {B : Type 0} (else : B) (then : A → B) where
     element_there : (xs : List A) (i : ℕ) (x : A) → element xs i None Some ≡ Some x → element xs i else then ≡ then x

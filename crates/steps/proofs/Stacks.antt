@@ -1,11 +1,7 @@
 -- The first elements of a lent part, the newest first, as the code reads and writes them.
-use Rattle.std.proofs.Common.{◌≡◌, ℕ, Ok, Err, Result, ◌+◌, ◌-◌, ◌<◌, ◌≤◌, List, [], ◌∷◌, ◌++◌, reverse, length, take, set, refl, sym, ap, ◌∙◌, arith}
+use Rattle.std.proofs.Common.{◌≡◌, ℕ, ◌+◌, ◌-◌, ◌<◌, ◌≤◌, List, [], ◌∷◌, ◌++◌, reverse, length, take, set, refl, sym, ap, ◌∙◌, arith}
 use Rattle.std.proofs.lemmas.List.{take_all, take_at, take-take, length-take, take-append-le, length-append, length-reverse, length-take-le, take_more_set, reverse-append}
-use Rattle.machine.specs.Steps.{taking}
-use Rattle.machine.specs.declared.answers.Stop.{Stop}
-use Rattle.machine.specs.declared.parts.Entry.{Entry}
-use Rattle.machine.specs.declared.parts.Labelled.{Labelled}
-use Rattle.steps.specs.Walks.{newest, Takes}
+use Rattle.steps.specs.Walks.{newest}
 
 module _ {A : Type 0} where
   pub length_newest : (n : ℕ) (xs : List A) → n ≤ length xs → length (newest n xs) ≡ n
@@ -44,12 +40,3 @@ module _ {A : Type 0} where
 
   pub newest_under : (xs : List A) (n : ℕ) → n ≤ length xs → newest (length (take n xs) - 1) (take n xs) ≡ newest (n - 1) xs
   newest_under xs n within = ap (λ k. newest (k - 1) (take n xs)) (length-take-le n xs within) ∙ ap reverse (take-take (n - 1) n xs (omega arith))
-
-module _ {L : Type 0} where
-  -- The number on top of the first n entries, as it was found in them alone.
-  pub takes_first : (xs : List (Entry L)) (n : ℕ) (r : Result (Labelled L) Stop) → n ≤ length xs → Takes (take n xs) (length (take n xs)) r → Takes xs n r
-  takes_first xs n (Ok a) within took = (
-    omega (arith, length-take-le n xs within, took.0),
-    λ then. ap (λ s. taking s then) (sym (newest_first xs n within)) ∙ took.1 then ∙ ap (then a) (newest_under xs n within),
-  )
-  takes_first xs n (Err stop) within took = λ then. ap (λ s. taking s then) (sym (newest_first xs n within)) ∙ took then

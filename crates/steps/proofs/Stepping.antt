@@ -1,16 +1,16 @@
 -- What an operation comes to, and one step, by what stands at the program counter.
-use Rattle.std.proofs.Common.{◌≡◌, ℕ, zero, suc, ◌<◌, false, cond, List, Some, None, Ok, Err, Result, IsOkAnd, MatchResult, refl, sym, ap, subst, ◌∙◌, arith}
+use Rattle.std.proofs.Common.{◌≡◌, ◌≢◌, ℕ, zero, suc, ◌<◌, false, cond, List, Some, None, Ok, Err, Result, IsOkAnd, MatchResult, refl, sym, ap, subst, ◌∙◌, arith}
 use Rattle.labels.specs.Kind.{Kind}
 use Rattle.rules.specs.Tables.{Table}
-use Rattle.machine.specs.Steps.{Setup, Round, stopped, at_place, halts, halted, tried, attempt, step}
+use Rattle.machine.specs.Steps.{Setup, Round, later, stopped, at_place, halts, halted, tried, attempt, step}
 use Rattle.machine.specs.declared.answers.Stop.{Stop}
 use Rattle.machine.specs.declared.answers.Stop.TheVariants.{OutsideProgram}
 use Rattle.machine.specs.declared.parts.Entry.{Entry}
 use Rattle.machine.specs.declared.parts.Labelled.{Labelled}
 use Rattle.machine.specs.declared.parts.Operation.{Operation}
-use Rattle.machine.specs.declared.parts.Operation.TheVariants.{Halt}
+use Rattle.machine.specs.declared.parts.Operation.TheVariants.{Push, Pop, Noop, Add, Sub, Less, Load, Store, Jump, Bnz, Call, Return, Output, Halt}
 use Rattle.steps.specs.Operations.{round, Does}
-use Rattle.steps.specs.Steps.{NotDone, OnlyDoneChanges, DoneFits, Halts, Attempted, Steps}
+use Rattle.steps.specs.Steps.{NotDone, OnlyDoneChanges, DoneFits, Halts, Attempted, Steps, Waits}
 use Rattle.steps.specs.declared.registers.Registers.{Registers}
 use Rattle.steps.specs.declared.step.Outcome.{Outcome as CodeOutcome}
 use Rattle.steps.specs.declared.step.Outcome.TheVariants.{Finished, Later, Done}
@@ -40,6 +40,23 @@ module _ {L : Type 0} where
   mapped (Ok q) (Ok o) cases = ap Ok cases
   mapped (Ok q) (Err e) cases = absurd cases
   mapped (Err e) answer cases = cases
+
+  -- every operation but halt
+  pub no_halt : (op : Operation L) → op ≢ Halt → halts op ≡ false
+  no_halt (Push v) not = refl
+  no_halt Pop not = refl
+  no_halt Noop not = refl
+  no_halt Add not = refl
+  no_halt Sub not = refl
+  no_halt Less not = refl
+  no_halt Load not = refl
+  no_halt Store not = refl
+  no_halt Jump not = refl
+  no_halt (Bnz k) not = refl
+  no_halt (Call k due) not = refl
+  no_halt Return not = refl
+  no_halt Output not = refl
+  no_halt Halt not = absurd (not refl)
 
   fuelled : (kind : Kind L) (table : Table L) (setup : Setup L) (op : Operation L) (fuel : ℕ) (s : Round L) → halts op ≡ false → 0 < fuel → attempt kind table setup fuel s op ≡ tried kind table setup op s
   fuelled kind table setup op zero s not some = absurd (omega arith)
@@ -121,4 +138,28 @@ module _ {L : Type 0} (kind : Kind L) {P : Type 0} {faithful : P → Table L →
     keeps_stack = went.keeps_stack;
     keeps_log = went.keeps_log;
     fits = went.fits;
+  }
+
+-- Without fuel.
+module _ {L : Type 0} (kind : Kind L) {program : List (Operation L)} (before : Registers L) where
+  pub waits_stopped : {answer : Result (CodeOutcome L) Stop} → answer ≡ Err OutsideProgram → at_place program before.pc None Some ≡ None → Waits kind program before answer
+  waits_stopped is none = rw is (record {
+    comes_to = λ table setup programs memory log stack. sym (steps_outside kind table setup 0 (round before memory stack log) program programs none);
+    not_done = tt;
+  })
+
+  pub waits_halted : (answer : Result (CodeOutcome L) Stop) (op : Operation L) → at_place program before.pc None Some ≡ Some op → op ≡ Halt → Halts kind before answer → Waits kind program before answer
+  waits_halted answer op there is halt = record {
+    comes_to = λ table setup programs memory log stack.
+        halt.comes_to table setup memory log stack
+        ∙ sym (steps_on kind table setup 0 (round before memory stack log) program programs op there ∙ ap (attempt kind table setup 0 (round before memory stack log)) is);
+    not_done = halt.not_done;
+  }
+
+  pub waits_on : (op : Operation L) → at_place program before.pc None Some ≡ Some op → halts op ≡ false → Waits kind program before (Ok Later)
+  waits_on op there not = record {
+    comes_to = λ table setup programs memory log stack.
+        let s = round before memory stack log in
+        sym (steps_on kind table setup 0 s program programs op there ∙ ap (λ b. cond b (halted kind table setup s) later) not);
+    not_done = tt;
   }

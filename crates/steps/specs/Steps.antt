@@ -69,3 +69,9 @@ module _ {L : Type 0} where
     pub keeps_stack : OnlyDoneChanges answer stack stack'
     pub keeps_log : OnlyDoneChanges answer log log'
     pub fits : DoneFits fuel (length stack) (length log) answer
+
+  -- A step with no fuel left, whatever the parts hold: it does no operation.
+  pub record Waits (kind : Kind L) (program : List (Operation L)) (before : Registers L) (answer : Result (CodeOutcome L) Stop) : Type 0 where
+    pub comes_to : (table : Table L) (setup : Setup L) → setup.program ≡ program → (memory log : List (Labelled L)) (stack : List (Entry L))
+        → step_outcome answer (λ q. round q memory stack log) ≡ step kind table setup 0 (round before memory stack log)
+    pub not_done : NotDone answer

@@ -36,6 +36,13 @@ module _ {L : Type 0} where
       → taking (newest depth stack) then ≡ then a (newest (depth - 1) stack))
   Takes stack depth (Err stop) = (then : Labelled L → List (Entry L) → Outcome L) → taking (newest depth stack) then ≡ stopped stop
 
+  -- The same for the two numbers on top, the lower one first.
+  abbrev pub TakesTwo : List (Entry L) → ℕ → Result (Labelled L × Labelled L) Stop → Type 0
+  TakesTwo stack depth (Ok two) = (1 < depth) × ((then : Labelled L → Labelled L → List (Entry L) → Outcome L)
+      → taking (newest depth stack) (λ a rest. taking rest (λ b rest. then b a rest)) ≡ then two.0 two.1 (newest (depth - 2) stack))
+  TakesTwo stack depth (Err stop) = (then : Labelled L → Labelled L → List (Entry L) → Outcome L)
+      → taking (newest depth stack) (λ a rest. taking rest (λ b rest. then b a rest)) ≡ stopped stop
+
   -- The cell at an address and its index, or the stop where there is none, whatever is done then.
   abbrev pub FindsCell : List (Labelled L) → ℤ → Result (Found (Labelled L)) Stop → Type 0
   FindsCell memory address (Ok found) = (address ≡ pos found.index) × (found.index < length memory) × ((then : Labelled L → Outcome L)

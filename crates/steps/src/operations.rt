@@ -12,7 +12,8 @@ ghost use Rattle.steps.specs.Walks.{newest};
 
 use crate::registers::{Fetched, Registers};
 use crate::walks::{
-    Found, find_cell, has_numbers, insert_under, nearest_frame, top_number, write, write_entry,
+    Found, find_cell, has_numbers, insert_under, nearest_frame, top_number, top_two, write,
+    write_entry,
 };
 use labels::Label;
 use machine::{Entry, Frame, Labelled, Stop};
@@ -122,9 +123,8 @@ impl<L: Label> Fetched<L> {
         requires { F.IsAlwaysCallable rule }
         ensures { (applied : ℤ → ℤ → ℤ) → ((b a r : ℤ) → FitsSigned w32 b → FitsSigned w32 a → F.post rule b a r → r ≡ applied b a) → OnStack P.Policy.faithful policy.old policy.new used.old used.new (placed self) result (λ table setup. arithmetic_on L.Label.kind table setup op applied) }
     {
-        let a = top_number(used)?;
+        let (b, a) = top_two(used)?;
         let depth = used.len() - 1;
-        let b = top_number(&used[..depth])?;
         let verdict = ask(
             policy,
             Request {
@@ -174,9 +174,7 @@ impl<L: Label> Fetched<L> {
     ) -> Result<Registers<L>, Stop>
         ensures { OnMemory P.Policy.faithful policy.old policy.new memory.old memory.new used.now (placed self) result (λ table setup. tried L.Label.kind table setup Store) }
     {
-        let a = top_number(used)?;
-        let depth = used.len() - 1;
-        let b = top_number(&used[..depth])?;
+        let (b, a) = top_two(used)?;
         let Found {
             index,
             element: cell,
@@ -191,7 +189,7 @@ impl<L: Label> Fetched<L> {
             },
         )?;
         write(&mut memory[index], relabelled(b, verdict.result));
-        Ok(self.next(verdict.pc, depth - 1))
+        Ok(self.next(verdict.pc, used.len() - 2))
     }
 
     pub fn bnz<P: Policy<L>>(

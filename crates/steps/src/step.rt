@@ -1,7 +1,7 @@
 // One step: what the operation at the program counter comes to.
 ghost use Rattle.std.specs.Prelude.{◌≡◌, ℕ, ◌<◌, ◌≤◌, length};
 ghost use Rattle.steps.specs.Places.{InProgram};
-ghost use Rattle.steps.specs.Steps.{Attempted, Halts, Steps};
+ghost use Rattle.steps.specs.Steps.{Attempted, Halts, Steps, Waits};
 
 use crate::place::Place;
 use crate::registers::{Fetched, Registers};
@@ -100,5 +100,18 @@ impl<L: Label> Registers<L> {
     {
         let found = find(program, self.pc).ok_or(Stop::OutsideProgram)?;
         self.attempt(found.element, memory, stack, log, policy, fuel)
+    }
+
+    // One step with no fuel left, which does no operation: a halt is decided, and any other operation waits. It is a function of
+    // its own so that a loop that counts its fuel down need not ask before each operation whether any is left.
+    pub fn step_without_fuel(self, program: &[Operation<L>]) -> Result<Outcome<L>, Stop>
+        requires program_fits { length program.now ≤ 4096 }
+        ensures { Waits L.Label.kind program.now self result }
+    {
+        let found = find(program, self.pc).ok_or(Stop::OutsideProgram)?;
+        match found.element {
+            Operation::Halt => self.halted(),
+            _ => Ok(Outcome::Later),
+        }
     }
 }

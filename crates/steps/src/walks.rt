@@ -1,8 +1,8 @@
 // Walks over the lent parts: an element by its place, the numbers on top of the entries in use, their nearest frame.
-ghost use Rattle.std.specs.Prelude.{◌≡◌, ◌-◌, ◌<◌, ◌∷◌, ◌++◌, reverse, length, take, drop, nat_le};
+ghost use Rattle.std.specs.Prelude.{◌≡◌, ◌-◌, ◌<◌, ◌≤◌, ◌^◌, ◌∷◌, ◌++◌, reverse, length, take, drop, nat_le};
 ghost use Rattle.std.specs.List.{list_all};
 ghost use Rattle.machine.specs.declared.parts.Entry.TheVariants.{Number};
-ghost use Rattle.steps.specs.Walks.{newest, is_number, numbers_on_top, Takes, FindsFrame, Finds, FindsCell};
+ghost use Rattle.steps.specs.Walks.{newest, is_number, numbers_on_top, Takes, TakesTwo, FindsFrame, Finds, FindsCell};
 
 use machine::{Entry, Frame, Labelled, Stop};
 
@@ -15,12 +15,11 @@ pub struct Found<T> {
 
 // The element at a place, which may be outside.
 pub fn find<T>(part: &[T], place: i64) -> Option<Found<&T>>
+    requires { length part.now ≤ 2 ^ 63 }
     ensures { Finds part.now place result }
 {
-    if place < 0 {
-        return None;
-    }
-    let index = place as usize;
+    // A negative place is cast to a number beyond every part, so that one test serves for both ends.
+    let index = place.cast_unsigned() as usize;
     let element = part.get(index)?;
     Some(Found { index, element })
 }
@@ -47,6 +46,16 @@ pub fn top_number<L: Copy>(used: &[Entry<L>]) -> Result<Labelled<L>, Stop>
 {
     match used.last() {
         Some(Entry::Number(number)) => Ok(read(number)),
+        _ => Err(Stop::TooFewNumbers),
+    }
+}
+
+// The top two numbers, the lower one first, which must both lie above the nearest frame.
+pub fn top_two<L: Copy>(used: &[Entry<L>]) -> Result<(Labelled<L>, Labelled<L>), Stop>
+    ensures { TakesTwo used.now (length used.now) result }
+{
+    match used {
+        [.., Entry::Number(b), Entry::Number(a)] => Ok((read(b), read(a))),
         _ => Err(Stop::TooFewNumbers),
     }
 }

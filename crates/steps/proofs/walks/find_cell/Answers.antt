@@ -1,7 +1,6 @@
-use Rattle.std.proofs.Common.{◌≡◌, arith, w32, w64, SFits, to_z, of_z, rules, ap, ◌∙◌, sym, Ok}
+use Rattle.std.proofs.Common.{◌≡◌, arith, w32, w64, SFits, to_z, of_z, rules, sym}
 use Rattle.std.proofs.lemmas.Int.{ints}
 use Rattle.steps.proofs.Places.{finds_cell, finds_no_cell}
-use Rattle.steps.specs.Walks.{FindsCell}
 use Rattle.steps.proofs.walks.find_cell.Goals as goal
 
 pub returns-in-Some : goal.returns-in-Some

@@ -7,8 +7,8 @@ use Rattle.steps.specs.Operations.{round}
 use Rattle.station.proofs.states.Running.run.Given as goal
 
 -- The steps so far, and those with the fuel left, are the steps of the go.
-abbrev pub invariant-loop-end : goal.invariant-loop-end
-invariant-loop-end g l = record {
+abbrev pub invariant-loop-left : goal.invariant-loop-left
+invariant-loop-left g l = record {
   left : l.left ≤ l.fn.fuel;
   sizes : l.self.sizes ≡ l.fn.self.sizes;
   still : (table : Table g.row.L.Denot) → g.P.Policy.faithful l.fn.policy table → g.P.Policy.faithful l.policy table;
@@ -18,5 +18,5 @@ invariant-loop-end g l = record {
       ≡ after_more (l.fn.fuel - l.left) (run_steps g.L.Label.kind setup table l.left (round l.self.registers l.memory l.stack l.log));
 }
 
-abbrev pub decreases-loop-end : goal.decreases-loop-end
-decreases-loop-end g l = l.left
+abbrev pub decreases-loop-left : goal.decreases-loop-left
+decreases-loop-left g l = l.left
