@@ -36,6 +36,7 @@ impl<P: Policy<L>, L: Label> Policy<L> for Cached<P, L> {
 
     ghost asked = { CachedAsked P.Policy.asked };
 
+    #[inline(always)]
     fn rule(&mut self, request: Request<L>) -> Option<Verdict<L>>
         ensures obeys { Obeys (CachedFaithful P.Policy.faithful) self.old request result self.new }
         ensures asked { CachedAsked P.Policy.asked self.old request result self.new }

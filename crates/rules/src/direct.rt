@@ -24,6 +24,7 @@ impl<L: Label> Policy<L> for Direct {
 
     ghost asked = { DirectAsked L.Label.kind };
 
+    #[inline(always)]
     fn rule(&mut self, request: Request<L>) -> Option<Verdict<L>>
         ensures obeys { Obeys (DirectFaithful L.Label.kind) self.old request result self.new }
         ensures asked { DirectAsked L.Label.kind self.old request result self.new }

@@ -63,6 +63,7 @@ pub trait Policy<L: Label> {
 
     // The verdict on a request, or none, which forbids. Each `impl` writes the clauses again: where a parameter's type has
     // the trait's own parameter, the check cannot give a method the clauses of its trait yet.
+    // Each is inlined where it is asked, since the operation is known there.
     fn rule(&mut self, request: Request<L>) -> Option<Verdict<L>>
         ensures obeys { Obeys faithful self.old request result self.new }
         ensures asked { asked self.old request result self.new };

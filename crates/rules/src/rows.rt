@@ -46,6 +46,7 @@ impl<L: Label> Policy<L> for RowTable {
 
     ghost asked = { RowsAsked L.Label.kind };
 
+    #[inline(always)]
     fn rule(&mut self, request: Request<L>) -> Option<Verdict<L>>
         ensures obeys { Obeys (RowsFaithful L.Label.kind) self.old request result self.new }
         ensures asked { RowsAsked L.Label.kind self.old request result self.new }

@@ -40,6 +40,7 @@ struct Ran {
 }
 
 // The same registers, taken field by field: a copy of the whole would carry the bytes between the fields through every step.
+#[inline(always)]
 fn by_fields<L: Copy>(registers: Registers<L>) -> Registers<L>
     ensures { result ≡ registers }
 {

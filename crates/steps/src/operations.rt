@@ -20,13 +20,15 @@ use machine::{Entry, Frame, Labelled, Stop};
 use rules::{Opcode, Policy, Request, Verdict};
 
 // The same number with another label.
+#[inline(always)]
 fn relabelled<L: Copy>(number: Labelled<L>, label: L) -> Labelled<L>
     ensures { result ≡ labelled_with number.value label }
 {
     Labelled { label, ..number }
 }
 
-// Asks the policy.
+// Asks the policy. It is inlined into each operation, where all but that operation's own rule falls away.
+#[inline(always)]
 fn ask<P: Policy<L>, L: Label>(policy: &mut P, request: Request<L>) -> Result<Verdict<L>, Stop>
     ensures { Under P.Policy.faithful policy.old policy.new (λ table. Rules (table request) result) }
 {
@@ -34,6 +36,7 @@ fn ask<P: Policy<L>, L: Label>(policy: &mut P, request: Request<L>) -> Result<Ve
 }
 
 // What the policy is asked about an operation on no labels: the labels that an operation leaves out are bottom.
+#[inline(always)]
 fn request<L: Label>(pc: L, op: Opcode) -> Request<L>
     ensures { result ≡ request_of op pc L.Label.kind.bottom L.Label.kind.bottom L.Label.kind.bottom }
 {
@@ -49,6 +52,7 @@ fn request<L: Label>(pc: L, op: Opcode) -> Request<L>
 
 impl<L: Label> Fetched<L> {
     // The registers at a place, with this label and so many entries in use.
+    #[inline(always)]
     fn goto(self, pc: i64, pc_label: L, depth: usize) -> Registers<L>
         ensures { result ≡ registers_of pc pc_label depth self.commands }
     {
@@ -61,6 +65,7 @@ impl<L: Label> Fetched<L> {
     }
 
     // On to the next place.
+    #[inline(always)]
     fn next(self, pc_label: L, depth: usize) -> Registers<L>
         ensures { result ≡ registers_of (self.pc.number +ℤ pos 1) pc_label depth self.commands }
     {

@@ -1,4 +1,5 @@
 // Walks over the lent parts: an element by its place, the numbers on top of the entries in use, their nearest frame.
+// What passes a number on is always inlined: else a label of two fields is packed into one word and taken apart again at each step.
 ghost use Rattle.std.specs.Prelude.{◌≡◌, ◌-◌, ◌<◌, ◌≤◌, ◌^◌, ◌∷◌, ◌++◌, reverse, length, take, drop, nat_le};
 ghost use Rattle.std.specs.List.{list_all};
 ghost use Rattle.machine.specs.declared.parts.Entry.TheVariants.{Number};
@@ -14,6 +15,7 @@ pub struct Found<T> {
 }
 
 // The element at a place, which may be outside.
+#[inline(always)]
 pub fn find<T>(part: &[T], place: i64) -> Option<Found<&T>>
     requires { length part.now ≤ 2 ^ 63 }
     ensures { Finds part.now place result }
@@ -25,6 +27,7 @@ pub fn find<T>(part: &[T], place: i64) -> Option<Found<&T>>
 }
 
 // The cell at an address.
+#[inline(always)]
 pub fn find_cell<L: Copy>(
     memory: &[Labelled<L>],
     address: Labelled<L>,
@@ -41,6 +44,7 @@ pub fn find_cell<L: Copy>(
 }
 
 // The top number, which must lie above the nearest frame.
+#[inline(always)]
 pub fn top_number<L: Copy>(used: &[Entry<L>]) -> Result<Labelled<L>, Stop>
     ensures { Takes used.now (length used.now) result }
 {
@@ -51,6 +55,7 @@ pub fn top_number<L: Copy>(used: &[Entry<L>]) -> Result<Labelled<L>, Stop>
 }
 
 // The top two numbers, the lower one first, which must both lie above the nearest frame.
+#[inline(always)]
 pub fn top_two<L: Copy>(used: &[Entry<L>]) -> Result<(Labelled<L>, Labelled<L>), Stop>
     ensures { TakesTwo used.now (length used.now) result }
 {
@@ -61,6 +66,7 @@ pub fn top_two<L: Copy>(used: &[Entry<L>]) -> Result<(Labelled<L>, Labelled<L>),
 }
 
 // Reads a number by its fields, and not as one block of bytes: in a part the fields are written one by one.
+#[inline(always)]
 fn read<L: Copy>(number: &Labelled<L>) -> Labelled<L>
     ensures { result ≡ number.now }
 {
@@ -71,6 +77,7 @@ fn read<L: Copy>(number: &Labelled<L>) -> Labelled<L>
 }
 
 // Writes a number by its fields.
+#[inline(always)]
 pub fn write<L: Copy>(place: &mut Labelled<L>, number: Labelled<L>)
     ensures { place.new ≡ number }
 {
@@ -79,6 +86,7 @@ pub fn write<L: Copy>(place: &mut Labelled<L>, number: Labelled<L>)
 }
 
 // Writes a number in an entry's place. Where a number stands, its fields are enough: a whole entry has room for a frame.
+#[inline(always)]
 pub fn write_entry<L: Copy>(entry: &mut Entry<L>, number: Labelled<L>)
     ensures { entry.new ≡ Number number }
 {
@@ -106,6 +114,7 @@ pub fn has_numbers<L: Copy>(used: &[Entry<L>], count: usize) -> bool
 }
 
 // The nearest frame.
+#[inline(always)]
 pub fn nearest_frame<L: Copy>(used: &[Entry<L>]) -> Result<Found<Frame<L>>, Stop>
     ensures { FindsFrame used.now (length used.now) result }
 {
