@@ -5,7 +5,6 @@ use Rattle.machine.specs.declared.answers.Part.{Part}
 use Rattle.machine.specs.declared.answers.Part.TheVariants.{Program, Memory, Stack, Log}
 use Rattle.machine.specs.declared.answers.Refusal.{Refusal}
 use Rattle.machine.specs.declared.answers.Refusal.TheVariants.{Limits, Length, Cell, Clearance}
-use Rattle.machine.specs.declared.parts.Sizes.{Sizes}
 use Rattle.sites.specs.Sites.{sizes_of}
 use Rattle.sites.specs.declared.calls.Call.{Call}
 use Rattle.sites.specs.declared.calls.Call.TheVariants.{Enter, Look, Start, Go, Command}

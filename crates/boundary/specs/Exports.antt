@@ -8,9 +8,6 @@ use Rattle.machine.specs.Numbers.{refusal_number}
 use Rattle.rules.specs.Policies.{CachedFaithful, DirectFaithful}
 use Rattle.rules.specs.Rows.{RowsFaithful}
 use Rattle.rules.specs.Tables.{Table, published}
-use Rattle.rules.specs.declared.cached.Cached.{Cached as CachedPolicy}
-use Rattle.rules.specs.declared.direct.Direct.{Direct as DirectPolicy}
-use Rattle.rules.specs.declared.rows.RowTable.{RowTable}
 use Rattle.compare.specs.Reports.{Compares, IsUnmade}
 use Rattle.compare.specs.declared.plans.Plan.{Plan}
 use Rattle.compare.specs.declared.reports.Compared.{Compared}

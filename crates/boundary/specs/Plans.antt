@@ -6,7 +6,6 @@ use Rattle.machine.specs.Numbers.{stop_number}
 use Rattle.machine.specs.Stations.{Station, idle, running, shut, commands_of, memory_of}
 use Rattle.machine.specs.declared.parts.Entry.{Entry}
 use Rattle.compare.specs.Runs.{RunsTo}
-use Rattle.compare.specs.declared.exchanges.Exchange.{Exchange}
 use Rattle.compare.specs.declared.plans.Plan.{Plan}
 use Rattle.compare.specs.declared.plans.Ran.{Ran}
 use Rattle.sites.specs.declared.lending.Parts.{Parts}

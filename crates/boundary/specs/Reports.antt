@@ -1,21 +1,12 @@
 -- What comparing two plans in numbers comes to. Assumes nothing.
-use Rattle.std.specs.Prelude.{◌≡◌, ℕ, ◌<◌, ◌^◌, ℤ, pos, negsuc, None, Some, Option, Ok, Err, Result}
-use Rattle.labels.specs.Kind.{Kind}
-use Rattle.rules.specs.Tables.{Table}
+use Rattle.std.specs.Prelude.{◌≡◌, ℕ, ◌<◌, ◌^◌, ℤ, pos, negsuc, None, Some, Option}
 use Rattle.machine.specs.Numbers.{refusal_number}
-use Rattle.compare.specs.Reports.{Compares, IsUnmade}
-use Rattle.compare.specs.declared.plans.Plan.{Plan}
-use Rattle.compare.specs.declared.reports.Compared.{Compared}
 use Rattle.compare.specs.declared.reports.Looks.{Looks}
 use Rattle.compare.specs.declared.reports.Looks.TheVariants.{NotDue, Same, DifferAt}
 use Rattle.compare.specs.declared.reports.Report.{Report}
 use Rattle.compare.specs.declared.reports.Unmade.{Unmade}
 use Rattle.compare.specs.declared.reports.Unmade.TheVariants.{First, Second}
 use Rattle.boundary.specs.Calls.{refused_part}
-use Rattle.boundary.specs.Plans.{CodesPlan}
-use Rattle.boundary.specs.declared.faults.Fault.{Fault}
-use Rattle.boundary.specs.declared.faults.Fault.TheVariants.{NoCode, OutOfMemory}
-use Rattle.boundary.specs.declared.plans.PlanCode.{PlanCode}
 use Rattle.boundary.specs.declared.reports.ReportCode.{ReportCode}
 
 -- a place, or -1 for none

@@ -47,12 +47,7 @@ impl KindCode {
     }
 
     // Runs a plan with labels of this kind.
-    pub fn run(
-        self,
-        heap: Global,
-        policy: PolicyCode,
-        plan: PlanCode<'_>,
-    ) -> Result<RanCode, Fault>
+    pub fn run(self, heap: Global, policy: PolicyCode, plan: PlanCode<'_>) -> Result<RanCode, Fault>
         ensures { RunsAs self policy plan.entry result }
     {
         match self {

@@ -1,5 +1,5 @@
-use Rattle.std.proofs.Common.{◌≡◌, refl, ap, sym, ◌∙◌, inl, rules, subst}
-use Rattle.boundary.specs.Exports.{CodesReported, CodesNoReport}
+use Rattle.std.proofs.Common.{refl, sym, ◌∙◌, inl, subst}
+use Rattle.boundary.specs.Exports.{CodesNoReport}
 use Rattle.boundary.proofs.exports.senggubat_compare.Goals as goal
 use Rattle.boundary.proofs.exports.senggubat_compare.Goals.{in-Ok-compare, in-Err}
 

@@ -1,4 +1,4 @@
-use Rattle.std.proofs.Common.{rules, ◌<◌, ◌+◌, take, length, arith, subst, sym, ◌≡◌, List}
+use Rattle.std.proofs.Common.{◌<◌, ◌+◌, take, length, arith, subst, sym}
 use Rattle.boundary.specs.Parts.{CodesEach, none}
 use Rattle.boundary.proofs.Decoding.{codes_more, codes_nothing, unread}
 use Rattle.boundary.proofs.lists.decoded.Goals as goal

@@ -1,4 +1,4 @@
-use Rattle.std.proofs.Common.{◌≡◌, ◌≤◌, length, ap, ◌∙◌, sym, subst, w64, SFits, rules}
+use Rattle.std.proofs.Common.{◌≤◌, length, ap, ◌∙◌, sym, subst, w64, SFits, rules}
 use Rattle.std.proofs.lemmas.Int.{to_z-of_z}
 use Rattle.machine.specs.Stations.{running}
 use Rattle.steps.specs.Operations.{round}

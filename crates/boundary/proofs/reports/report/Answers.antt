@@ -1,4 +1,4 @@
-use Rattle.std.proofs.Common.{rules, inl, inr}
+use Rattle.std.proofs.Common.{inl, inr}
 use Rattle.boundary.proofs.reports.report.Goals as goal
 
 pub returns-in-Ok-compare : goal.returns-in-Ok-compare

@@ -1,4 +1,3 @@
-use Rattle.std.proofs.Common.{rules}
 use Rattle.boundary.proofs.choices.PolicyCode.compare.Goals as goal
 
 pub returns-in-Rows : goal.returns-in-Rows
