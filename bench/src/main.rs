@@ -58,7 +58,13 @@ fn single(engine: &str, program: &str, kind: &str, policy: &str, steps: &str) ->
         steps.parse().ok()?,
     );
     match engine {
-        "ours" => Some(run(&mut oracle::foreign::Foreign, &program, kind, policy, steps)),
+        "ours" => Some(run(
+            &mut oracle::foreign::Foreign,
+            &program,
+            kind,
+            policy,
+            steps,
+        )),
         "rust" => Some(run(&mut oracle::ours::Ours, &program, kind, policy, steps)),
         _ => None,
     }

@@ -1,7 +1,7 @@
 //! The programs that are measured.
 
-use oracle::plan::{Call, Entry, Number, Operation, Plan, call, operation};
 use operation::{ADD, HALT, JUMP, LESS, LOAD, NOOP, OUTPUT, POP, RETURN, STORE, SUB};
+use oracle::plan::{Call, Entry, Number, Operation, Plan, call, operation};
 
 /// A program, and how it is run.
 pub struct Program {

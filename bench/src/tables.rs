@@ -4,7 +4,9 @@ use crate::measure::{median, most_memory, sample};
 use crate::programs::{self, Program};
 use oracle::foreign::Foreign;
 use oracle::ours::Ours;
-use oracle::plan::{Call, Comparison, Engine, Entry, Number, Operation, Plan, Side, call, operation};
+use oracle::plan::{
+    Call, Comparison, Engine, Entry, Number, Operation, Plan, Side, call, operation,
+};
 use std::time::Instant;
 
 /// How often each is measured, by turns.
@@ -35,7 +37,10 @@ pub fn speed() {
             }
         }
         let mean = logarithms.iter().sum::<f64>() / logarithms.len() as f64;
-        println!("geometric mean of the ratios, {policy_name}: {:.2}\n", mean.exp());
+        println!(
+            "geometric mean of the ratios, {policy_name}: {:.2}\n",
+            mean.exp()
+        );
     }
 }
 

@@ -131,17 +131,17 @@ impl<W: Watch> Job for Run<'_, W> {
             stack: coding::stack(&outcome.stack)?,
             log: coding::numbers(&outcome.log)?,
         };
-        let mut session = match Session::<L, P>::make(parts) {
-            Ok(session) => session,
+        let mut installed = match Installed::<L, P>::make(parts) {
+            Ok(installed) => installed,
             Err(refusal) => return Some(making_refused(refusal)),
         };
         for (call, reply) in calls.iter().zip(&mut outcome.replies) {
-            *reply = session.reply_to(call, watch);
+            *reply = installed.reply_to(call, watch);
         }
-        coding::write_numbers(&session.parts.memory, &mut outcome.memory);
-        coding::write_stack(&session.parts.stack, &mut outcome.stack);
-        coding::write_numbers(&session.parts.log, &mut outcome.log);
-        Some(session.end())
+        coding::write_numbers(&installed.parts.memory, &mut outcome.memory);
+        coding::write_stack(&installed.parts.stack, &mut outcome.stack);
+        coding::write_numbers(&installed.parts.log, &mut outcome.log);
+        Some(installed.end())
     }
 }
 
@@ -159,13 +159,13 @@ fn part_number(refusal: Refusal) -> u32 {
 }
 
 /// A station with its parts and a policy.
-struct Session<L, P> {
+struct Installed<L, P> {
     station: Station<L>,
     parts: OwnedParts<L>,
     policy: P,
 }
 
-impl<L: Code, P: Policy<L> + Default> Session<L, P> {
+impl<L: Code, P: Policy<L> + Default> Installed<L, P> {
     fn make(mut parts: OwnedParts<L>) -> Result<Self, Refusal> {
         Ok(Self {
             station: Station::make(parts.lend().lengths())?,
@@ -410,17 +410,17 @@ fn place(found: Option<usize>) -> i64 {
     found.map_or(-1, |place| place as i64)
 }
 
-type SideRun<L, P> = (Session<L, P>, Vec<Counted<L>>);
+type SideRun<L, P> = (Installed<L, P>, Vec<Counted<L>>);
 
 /// Makes a station and the calls on it; answers it and the calls that count.
 fn run_side<L: Code, P: Policy<L> + Default>(side: Decoded<L>) -> Result<SideRun<L, P>, Refusal> {
-    let mut session = Session::<L, P>::make(side.parts)?;
+    let mut installed = Installed::<L, P>::make(side.parts)?;
     let mut counted = Vec::new();
     for call in &side.calls {
-        let reply = session.reply_to(call, &mut Unwatched);
+        let reply = installed.reply_to(call, &mut Unwatched);
         counted.extend(counts(call.action, &reply));
     }
-    Ok((session, counted))
+    Ok((installed, counted))
 }
 
 /// The call as it counts, if it was made.
@@ -437,8 +437,8 @@ fn counts<L: Label>(action: Action<L>, reply: &Reply) -> Option<Counted<L>> {
 
 /// The first cell at which looks at both stations are answered otherwise.
 fn first_look_apart<L: Code, P: Policy<L> + Default>(
-    first: &mut Session<L, P>,
-    second: &mut Session<L, P>,
+    first: &mut Installed<L, P>,
+    second: &mut Installed<L, P>,
     level: L,
 ) -> Option<usize> {
     let cells = first.parts.memory.len().max(second.parts.memory.len());
