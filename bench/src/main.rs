@@ -10,8 +10,8 @@ use oracle::plan::Engine;
 use programs::Program;
 use std::process::ExitCode;
 
-const USAGE: &str = "usage: bench [speed|growth|comparisons|sizes]..
-       bench one ours|rust PROGRAM KIND POLICY STEPS   (a single run, for a profiler)";
+const USAGE: &str = "usage: bench [speed|growth|stations|comparisons|sizes]..
+       bench one ours|rust PROGRAM KIND POLICY STEPS   (one program alone, for a profiler)";
 
 fn main() -> ExitCode {
     let words: Vec<String> = std::env::args().skip(1).collect();
@@ -26,7 +26,7 @@ fn main() -> ExitCode {
         };
     }
     let tables: &[&str] = if words.is_empty() {
-        &["speed", "growth", "comparisons", "sizes"]
+        &["speed", "growth", "stations", "comparisons", "sizes"]
     } else {
         &words
     };
@@ -34,6 +34,7 @@ fn main() -> ExitCode {
         match *table {
             "speed" => tables::speed(),
             "growth" => tables::growth(),
+            "stations" => tables::stations(),
             "comparisons" => tables::comparisons(),
             "sizes" => tables::sizes(),
             _ => return misuse(),
@@ -47,7 +48,7 @@ fn misuse() -> ExitCode {
     ExitCode::from(2)
 }
 
-/// Runs one program once on one engine, and answers its steps.
+/// Runs one program on one engine for about so many steps, and answers how many they were.
 fn single(engine: &str, program: &str, kind: &str, policy: &str, steps: &str) -> Option<u64> {
     let program = programs::all()
         .into_iter()
@@ -71,6 +72,6 @@ fn single(engine: &str, program: &str, kind: &str, policy: &str, steps: &str) ->
 }
 
 fn run(engine: &mut impl Engine, program: &Program, kind: u32, policy: u32, steps: u32) -> u64 {
-    let (plan, _) = program.plan(kind, policy, steps);
-    measure::sample(engine, &plan, 1).steps
+    let (plan, times) = program.plan(kind, policy, steps);
+    measure::sample(engine, &plan, times).steps
 }

@@ -16,10 +16,8 @@ pub struct Program {
 enum Run {
     /// It goes on until its fuel is spent.
     Endless,
-    /// A round finishes; there are so many rounds on a station.
-    Rounds(usize),
-    /// The round is stopped, which shuts the station.
-    Stopped,
+    /// It is stopped after about so many steps, long before its fuel is spent.
+    Stopped(u32),
 }
 
 /// An operation. A hidden number has a label above the bottom.
@@ -58,10 +56,9 @@ impl Program {
             index: steps.into(),
             ..Call::default()
         };
-        let (rounds, times) = match self.run {
-            Run::Endless => (1, 1),
-            Run::Rounds(rounds) => (rounds, steps as usize / (rounds * self.steps.len())),
-            Run::Stopped => (1, steps as usize / 100),
+        let times = match self.run {
+            Run::Endless => 1,
+            Run::Stopped(taken) => steps / taken,
         };
         let low = Number::default();
         let plan = Plan {
@@ -69,12 +66,12 @@ impl Program {
             policy,
             program: self.steps.iter().map(|step| step.code(kind)).collect(),
             memory: vec![low; 16],
-            stack: vec![Entry::default(); 64],
+            stack: vec![Entry::default(); 16],
             log: vec![low; self.log],
-            calls: [start, go].repeat(rounds),
+            calls: vec![start, go],
             other_replies: 0,
         };
-        (plan, times.max(1))
+        (plan, times.max(1) as usize)
     }
 }
 
@@ -128,7 +125,7 @@ pub fn counting() -> Program {
             Branch(-7),
             Plain(HALT),
         ],
-        log: 64,
+        log: 16,
         run: Run::Endless,
     }
 }
@@ -148,25 +145,25 @@ fn calling() -> Program {
             Plain(ADD),
             Plain(RETURN),
         ],
-        log: 64,
+        log: 16,
         run: Run::Endless,
     }
 }
 
-/// Puts hidden numbers into cells, loads them and gives them out, in rounds that fill the log.
+/// Puts hidden numbers into cells, loads them and gives them out, until the log is full.
 fn storing() -> Program {
     let mut steps = Vec::new();
     for cell in 0..8 {
         steps.extend([Hidden(cell * 3), Push(cell), Plain(STORE)]);
         steps.extend([Push(cell), Plain(LOAD), Plain(OUTPUT)]);
     }
-    steps.push(Plain(HALT));
-    // A cell that holds a hidden number takes another one.
+    steps.extend([Push(0), Plain(JUMP)]);
+    let log = 4096;
     Program {
         name: "stores and outputs",
+        run: Run::Stopped(log / 8 * steps.len() as u32),
         steps,
-        log: 4096,
-        run: Run::Rounds(512),
+        log: log as usize,
     }
 }
 
@@ -186,15 +183,40 @@ fn branching() -> Program {
             Branch(-8),
             Plain(HALT),
         ],
-        log: 64,
+        log: 16,
         run: Run::Endless,
     }
 }
 
-/// A round that is stopped at its fifth step, for want of a number. Station and calls are made anew each time.
+/// Counts a cell down from 1,000, and is stopped then for want of a number.
 fn stopping() -> Program {
     Program {
         name: "stops early",
+        steps: vec![
+            Push(1_000),
+            Push(0),
+            Plain(STORE),
+            Push(0),
+            Plain(LOAD),
+            Push(1),
+            Plain(SUB),
+            Push(0),
+            Plain(STORE),
+            Push(0),
+            Plain(LOAD),
+            Branch(-8),
+            Plain(POP),
+            Plain(HALT),
+        ],
+        log: 16,
+        run: Run::Stopped(9_003),
+    }
+}
+
+/// A round that is stopped at its fifth step.
+pub fn shortest() -> Program {
+    Program {
+        name: "shortest",
         steps: vec![
             Push(1),
             Push(2),
@@ -203,7 +225,7 @@ fn stopping() -> Program {
             Plain(POP),
             Plain(HALT),
         ],
-        log: 64,
-        run: Run::Stopped,
+        log: 16,
+        run: Run::Stopped(4),
     }
 }

@@ -1,6 +1,6 @@
 //! The tables that are printed.
 
-use crate::measure::{median, most_memory, sample};
+use crate::measure::{Sample, median, most_memory, sample};
 use crate::programs::{self, Program};
 use oracle::foreign::Foreign;
 use oracle::ours::Ours;
@@ -15,7 +15,7 @@ const STEPS: u32 = 5_000_000;
 const KINDS: [(&str, u32); 3] = [("levels", 0), ("sets", 1), ("pairs", 3)];
 const POLICIES: [(&str, u32); 3] = [("direct", 0), ("rows", 1), ("cached", 2)];
 
-/// Steps a second of both engines; of the program that stops early, runs a second, since it hardly takes steps.
+/// Steps a second of both engines.
 pub fn speed() {
     println!(
         "{:<20} {:<8} {:<8} {:>10} {:>10} {:>7}",
@@ -47,21 +47,32 @@ pub fn speed() {
 /// The medians of ours and of plain Rust, measured by turns.
 fn side_by_side(program: &Program, kind: u32, policy: u32) -> (f64, f64) {
     let (plan, times) = program.plan(kind, policy, STEPS);
+    medians(&plan, times, Sample::steps_per_second)
+}
+
+/// The medians of what both engines do in a second, measured by turns.
+fn medians(plan: &Plan, times: usize, rate: impl Fn(Sample) -> f64) -> (f64, f64) {
     let (mut ours, mut rust) = (Vec::new(), Vec::new());
     for _ in 0..REPETITIONS {
-        ours.push(rate(&mut Foreign, &plan, times, program));
-        rust.push(rate(&mut Ours, &plan, times, program));
+        ours.push(rate(sample(&mut Foreign, plan, times)));
+        rust.push(rate(sample(&mut Ours, plan, times)));
     }
     (median(ours), median(rust))
 }
 
-fn rate(engine: &mut impl Engine, plan: &Plan, times: usize, program: &Program) -> f64 {
-    let sample = sample(engine, plan, times);
-    if program.name == "stops early" {
-        sample.runs_per_second()
-    } else {
-        sample.steps_per_second()
+/// Stations a second: a plan decoded, its station made, started and stopped at its fifth step, and what is left of it coded.
+pub fn stations() {
+    for (kind_name, kind) in KINDS {
+        let (plan, times) = programs::shortest().plan(kind, 0, STEPS / 4);
+        let (ours, rust) = medians(&plan, times, Sample::runs_per_second);
+        println!(
+            "stations a second, {kind_name}: ours {:.2} M, plain Rust {:.2} M, ratio {:.2}",
+            ours / 1e6,
+            rust / 1e6,
+            ours / rust
+        );
     }
+    println!();
 }
 
 /// The time of a run against its steps.

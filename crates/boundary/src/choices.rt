@@ -59,9 +59,7 @@ impl KindCode {
             KindCode::GrowersGrowers => policy.run::<Pair<Growers, Growers>>(heap, plan),
         }
     }
-}
 
-impl KindCode {
     // Compares two plans with labels of this kind.
     pub fn compare(
         self,

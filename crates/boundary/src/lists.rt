@@ -55,12 +55,9 @@ impl<L: Coded> Codes<Exchange<L>> for CallCode {
 pub fn decoded<C: Codes<T>, T: Drop>(heap: Global, codes: &[C]) -> Result<Vec<T>, Fault>
     ensures { MatchResult result (λ all. CodesEach C.Codes.codes codes.now all.items) (Unread ((all : List T) → CodesEach C.Codes.codes codes.now all → ⊥)) }
 {
-    let mut all = Vec::new(heap);
+    let mut all = Vec::with_capacity(heap, codes.len())?;
     for code in codes {
-        match code.decode(heap) {
-            Ok(value) => all.push(value)?,
-            Err(why) => return Err(why),
-        }
+        all.push(code.decode(heap)?)?;
     }
     Ok(all)
 }

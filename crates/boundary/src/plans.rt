@@ -63,15 +63,9 @@ impl PlanCode<'_> {
     ) -> Result<RanCode, Fault>
         ensures { Runs L.Coded.code policy L.Label.kind P.Policy.faithful self.entry result }
     {
-        let plan: Plan<P, L> = match self.plan(heap, policy) {
-            Ok(plan) => plan,
-            Err(why) => return Err(why),
-        };
+        let plan: Plan<P, L> = self.plan(heap, policy)?;
         match plan.run() {
-            Ok(ran) => match ran_code(heap, &ran) {
-                Ok(told) => Ok(told),
-                Err(_) => Err(Fault::OutOfMemory),
-            },
+            Ok(ran) => Ok(ran_code(heap, &ran)?),
             Err(why) => Err(Fault::Unmade(why)),
         }
     }
@@ -84,14 +78,8 @@ impl PlanCode<'_> {
     ) -> Result<Plan<P, L>, Fault>
         ensures { MatchResult result (CodesPlan L.Coded.code policy self.entry) (Unread ((plan : PlanD P L) → CodesPlan L.Coded.code policy self.entry plan → ⊥)) }
     {
-        let parts = match self.parts(heap) {
-            Ok(parts) => parts,
-            Err(why) => return Err(why),
-        };
-        let exchanges = match decoded(heap, self.calls) {
-            Ok(exchanges) => exchanges,
-            Err(why) => return Err(why),
-        };
+        let parts = self.parts(heap)?;
+        let exchanges = decoded(heap, self.calls)?;
         Ok(Plan {
             parts,
             policy,
@@ -102,22 +90,10 @@ impl PlanCode<'_> {
     fn parts<L: Coded>(self, heap: Global) -> Result<Parts<L>, Fault>
         ensures { MatchResult result (CodesParts L.Coded.code self.entry) (Unread ((parts : PartsD L) → CodesParts L.Coded.code self.entry parts → ⊥)) }
     {
-        let program = match decoded(heap, self.program) {
-            Ok(program) => program,
-            Err(why) => return Err(why),
-        };
-        let memory = match decoded(heap, self.memory) {
-            Ok(memory) => memory,
-            Err(why) => return Err(why),
-        };
-        let stack = match decoded(heap, self.stack) {
-            Ok(stack) => stack,
-            Err(why) => return Err(why),
-        };
-        let log = match decoded(heap, self.log) {
-            Ok(log) => log,
-            Err(why) => return Err(why),
-        };
+        let program = decoded(heap, self.program)?;
+        let memory = decoded(heap, self.memory)?;
+        let stack = decoded(heap, self.stack)?;
+        let log = decoded(heap, self.log)?;
         Ok(Parts {
             program,
             memory,

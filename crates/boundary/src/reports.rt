@@ -55,14 +55,8 @@ pub fn report<P: Policy<L> + Drop, L: Coded>(
     let Some(level) = L::of_code(level) else {
         return Err(Fault::NoCode);
     };
-    let one = match one.plan::<P, L>(heap, first) {
-        Ok(one) => one,
-        Err(why) => return Err(why),
-    };
-    let two = match two.plan::<P, L>(heap, second) {
-        Ok(two) => two,
-        Err(why) => return Err(why),
-    };
+    let one = one.plan::<P, L>(heap, first)?;
+    let two = two.plan::<P, L>(heap, second)?;
     match compare::<P, P, L>(level, one, two) {
         Ok(compared) => Ok(ReportCode::of(compared.report)),
         Err(unmade) => Ok(ReportCode::unmade(unmade)),

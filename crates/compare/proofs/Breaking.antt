@@ -1,6 +1,7 @@
 -- Where two lists first differ, found from their beginnings on.
 use Rattle.std.proofs.Common.{◌≡◌, ℕ, suc, ◌+◌, List, [], ◌∷◌, Some, None, Option, refl, inl, inr, arith, ap}
 use Rattle.machine.specs.Lists.{Each, none, more, ends, goes_on, OneBegins}
+use Rattle.machine.proofs.Lists.{one_begins_tail}
 use Rattle.compare.specs.Differences.{Breaks}
 
 -- the place with one more element before
@@ -26,27 +27,23 @@ shifted_later k (Some n) = ap Some (omega arith)
 
 module _ {A : Type 0} (R : A → A → Type 0) where
   -- Lists of which one begins the other,
-  pub first_over : (ys : List A) → Breaks (OneBegins R) [] ys None
-  first_over ys = inl ends
+  pub none_before : (ys : List A) → Breaks (OneBegins R) [] ys None
+  none_before ys = inl ends
 
-  pub second_over : (xs : List A) → Breaks (OneBegins R) xs [] None
-  second_over xs = inr ends
+  pub none_behind : (xs : List A) → Breaks (OneBegins R) xs [] None
+  none_behind xs = inr ends
 
   module _ (turn : (x y : A) → R x y → R y x) (x y : A) where
     longer : {xs ys : List A} → R x y → OneBegins R xs ys → OneBegins R (x ∷ xs) (y ∷ ys)
     longer r (inl b) = inl (goes_on r b)
     longer r (inr b) = inr (goes_on (turn x y r) b)
 
-    shorter : {xs ys : List A} → OneBegins R (x ∷ xs) (y ∷ ys) → R x y × OneBegins R xs ys
-    shorter (inl (goes_on r b)) = (r, inl b)
-    shorter (inr (goes_on r b)) = (turn y x r, inr b)
-
     pub differ : (xs ys : List A) → (R x y → ⊥) → Breaks (OneBegins R) (x ∷ xs) (y ∷ ys) (Some 0)
-    differ xs ys unalike = (inl ends, λ both. unalike (shorter both).0)
+    differ xs ys unalike = (inl ends, λ both. unalike (one_begins_tail turn both).0)
 
     pub go_on : (xs ys : List A) (p : Option ℕ) → R x y → Breaks (OneBegins R) xs ys p → Breaks (OneBegins R) (x ∷ xs) (y ∷ ys) (later p)
     go_on xs ys None r breaks = longer r breaks
-    go_on xs ys (Some n) r breaks = (longer r breaks.0, λ both. breaks.1 (shorter both).1)
+    go_on xs ys (Some n) r breaks = (longer r breaks.0, λ both. breaks.1 (one_begins_tail turn both).1)
 
   -- and lists that are alike and equally long.
   uneven : (x : A) → Each R (x ∷ []) [] → ⊥

@@ -1,12 +1,14 @@
 -- Reports on two runs that were alike to the observer.
 use Rattle.std.proofs.Common.{◌≡◌, ℕ, zero, suc, Bool, true, false, cond, List, [], ◌∷◌, length, map, filter, take, Some, None, Option, refl, sym, ap, ◌∙◌, subst, inl, inr}
+use Rattle.std.proofs.lemmas.List.{length-map}
 use Rattle.labels.specs.Kind.{Kind, Lawful}
 use Rattle.rules.specs.Tables.{published}
-use Rattle.machine.specs.Lists.{Each, none, more, Begins, ends, goes_on, OneBegins}
+use Rattle.machine.specs.Lists.{Begins, ends, goes_on, OneBegins}
 use Rattle.machine.specs.Observer.{History, setup_of, inputs, AlikeCall, same_start, alike_enter, AlikeStations, AlikeCalls, SameCommands, SameLooks, visible}
 use Rattle.machine.specs.Stations.{Idle, commands_of}
 use Rattle.machine.specs.declared.parts.Labelled.{Labelled}
 use Rattle.machine.specs.declared.parts.Sizes.{Sizes}
+use Rattle.machine.proofs.Lists.{each_length}
 use Rattle.machine.proofs.Secrecy.{noninterference}
 use Rattle.sites.specs.Calls.{Sited, meant}
 use Rattle.sites.specs.declared.calls.Call.{Call}
@@ -39,14 +41,6 @@ module _ {A : Type 0} {R : A → A → Type 0} where
   begins_map f g related ends = ends
   begins_map f g related (goes_on r begins) = goes_on (related _ _ r) (begins_map f g related begins)
 
-  each_long : {xs ys : List A} → Each R xs ys → length xs ≡ length ys
-  each_long none = refl
-  each_long (more r each) = ap suc (each_long each)
-
-length-map : {A B : Type 0} (f : A → B) (xs : List A) → length (map f xs) ≡ length xs
-length-map f [] = refl
-length-map f (x ∷ xs) = ap suc (length-map f xs)
-
 module _ {L : Type 0} (kind : Kind L) (o : L) where
   -- Written calls that are alike stand for alike calls on stations with equally long memories.
   alike_meant : (sizes sizes' : Sizes) → sizes.memory ≡ sizes'.memory → (e f : Call L) → AlikeInput kind o e f
@@ -68,8 +62,8 @@ module _ {L : Type 0} (kind : Kind L) (o : L) where
       same_commands place breaks = never_breaks _ _ place breaks (rw (first.ends, second.ends) same_shown.0)
 
       counted_evenly : length (filter counts es) ≡ length (filter counts fs) → length (inputs h) ≡ length (inputs k)
-      counted_evenly evenly = ap length first.inputs_are ∙ length-map (input kind (setup_of h).sizes) (filter counts es) ∙ evenly
-          ∙ sym (length-map (input kind (setup_of k).sizes) (filter counts fs)) ∙ sym (ap length second.inputs_are)
+      counted_evenly evenly = ap length first.inputs_are ∙ length-map (filter counts es) (input kind (setup_of h).sizes) ∙ evenly
+          ∙ sym (length-map (filter counts fs) (input kind (setup_of k).sizes)) ∙ sym (ap length second.inputs_are)
 
       same_look : LooksDue kind o es fs one two → (cell : ℕ) → look_at kind o one cell ≡ look_at kind o two cell
       same_look due cell = rw (first.setup_is, second.setup_is, first.ends, second.ends)
@@ -91,7 +85,7 @@ module _ {L : Type 0} (kind : Kind L) (o : L) where
     -- The calls are alike if no two of those that count differ.
     pub calls_alike : AlikeStations kind o h k → OneBegins (AlikeExchange kind o) (filter counts es) (filter counts fs) → AlikeCalls kind o h k
     calls_alike alike_stations begin = rw (first.inputs_are, second.inputs_are)
-        (alike_inputs (setup_of h).sizes (setup_of k).sizes (each_long alike_stations.1) (filter counts es) (filter counts fs) begin)
+        (alike_inputs (setup_of h).sizes (setup_of k).sizes (each_length alike_stations.1) (filter counts es) (filter counts fs) begin)
 
 module _ {L : Type 0} (kind : Kind L) (o : L) where
   -- the numbers at or below the level, picked out by the test

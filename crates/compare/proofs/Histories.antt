@@ -6,7 +6,7 @@ use Rattle.rules.specs.Tables.{Table, published}
 use Rattle.machine.specs.Numbers.{outside_limits}
 use Rattle.machine.specs.Observer.{History, setup_of, end_of, inputs, struck, is_left, is_input, Published, AllPublished, Proper}
 use Rattle.machine.specs.Stations as stations
-use Rattle.machine.specs.Stations.{Station, idle, running, shut, Answer, granted, refused, fitting, misfit, make, setup, Idle, Running, Takes, Allowed, answer, after, after_all, memory_of, effect}
+use Rattle.machine.specs.Stations.{Station, idle, running, shut, Answer, granted, refused, fitting, misfit, setup, Idle, Running, Takes, Allowed, answer, after, after_all, memory_of, effect}
 use Rattle.machine.specs.Steps.{Setup, element}
 use Rattle.machine.specs.declared.answers.Part.{Part}
 use Rattle.machine.specs.declared.answers.Refusal.TheVariants.{Limits, Length, Cell, Clearance}

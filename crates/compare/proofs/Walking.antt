@@ -3,7 +3,7 @@ use Rattle.std.proofs.Common.{◌≡◌, ℕ, ◌+◌, ◌-◌, ◌<◌, ◌≤�
 use Rattle.std.proofs.lemmas.List.{drop_more, drop_all}
 use Rattle.machine.specs.Lists.{Each, none, OneBegins}
 use Rattle.compare.specs.Differences.{Breaks}
-use Rattle.compare.proofs.Breaking.{shifted, later, shifted_first, shifted_later, differ, go_on, first_over as none_before, second_over as none_behind, unlike, alike_on, first_ends, second_ends}
+use Rattle.compare.proofs.Breaking.{shifted, later, shifted_first, shifted_later, differ, go_on, none_before, none_behind, unlike, alike_on, first_ends, second_ends}
 
 -- the element at a place, and what is behind it
 pub met : {A : Type 0} (xs : List A) (i : ℕ) (x : A) → i < length xs → x ≡ get_or xs i x → drop i xs ≡ x ∷ drop (i + 1) xs

@@ -20,6 +20,10 @@ use Rattle.compare.specs.declared.exchanges.Lent.TheVariants.{Own, Others}
 use Rattle.compare.specs.declared.plans.Plan.{Plan}
 use Rattle.compare.specs.declared.plans.Ran.{Ran}
 
+-- a call that is lent the station's own parts, before it is made
+abbrev pub own_call : {L : Type 0} → Call L → Exchange L
+own_call call = record { call = call; lent = Own; reply = None }
+
 module _ {P L : Type 0} (kind : Kind L) (faithful : P → Table L → Type 0) where
   -- What a call that is lent its own or others' parts does, with what it leaves of them and of the policy.
   abbrev pub Meets : Installed P L → Call L → Lent L → Installed P L → Lent L → Reply L → Type 0

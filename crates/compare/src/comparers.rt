@@ -2,10 +2,11 @@
 ghost use Rattle.std.specs.Prelude.{◌≡◌, ◌↔◌, ◌⊎◌, Bool, IsTrue, true};
 ghost use Rattle.std.proofs.Common.{sym};
 ghost use Rattle.machine.specs.Observer.{Alike, AlikeOperation};
+ghost use Rattle.machine.proofs.Alikes.{alike_sym};
 ghost use Rattle.compare.specs.Runs.{counts};
 ghost use Rattle.compare.specs.Reports.{AlikeExchange};
 ghost use Rattle.compare.specs.Tests.{without_number};
-ghost use Rattle.compare.specs.Symmetry.{alike_sym, input_sym, operation_sym};
+ghost use Rattle.compare.specs.Symmetry.{input_sym, operation_sym};
 
 use crate::differences::Comparer;
 use crate::exchanges::Exchange;

@@ -1,7 +1,6 @@
 // Calls in a list: each with what it is lent and, once it was its turn, the reply.
-ghost use Rattle.std.specs.Prelude.{◌≡◌, None};
-ghost use Rattle.compare.specs.Runs.{Exchanged, counts};
-ghost use Rattle.compare.specs.declared.exchanges.Lent.TheVariants.{Own};
+ghost use Rattle.std.specs.Prelude.{◌≡◌};
+ghost use Rattle.compare.specs.Runs.{Exchanged, counts, own_call};
 
 use labels::Label;
 use machine::Refusal;
@@ -27,7 +26,7 @@ pub struct Exchange<L> {
 impl<L: Label> Exchange<L> {
     // A call that is lent the station's own parts.
     pub fn of(call: Call<L>) -> Exchange<L>
-        ensures { result ≡ record { call = call; lent = Own; reply = None } }
+        ensures { result ≡ own_call call }
     {
         Exchange {
             call,

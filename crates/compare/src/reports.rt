@@ -33,7 +33,7 @@ pub struct Report {
     pub looks: Looks,
 }
 
-// The looks that the observer may make, with each cell of both stations.
+// What is told of the looks that the observer may make into each cell of both stations.
 #[derive(Clone, Copy, Debug, PartialEq, Eq)]
 pub enum Looks {
     // Not equally many enters and starts counted, or a station is not idle.
@@ -52,7 +52,7 @@ impl Report {
     }
 
     // Whether he is given nothing that differs.
-    pub fn says_same(&self) -> bool
+    pub fn nothing_differs(&self) -> bool
         ensures { IsTrue result ↔ NothingDiffers self.now }
     {
         self.commands.is_none() && !matches!(self.looks, Looks::DifferAt(_))

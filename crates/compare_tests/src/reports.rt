@@ -1,7 +1,7 @@
 // Two stations of levels, each with the calls of a round, as an observer at level 1 is told of them.
 use compare::{Compared, Exchange, Lent, Looks, Plan, Report, Unmade, compare};
+use labels::Level;
 use labels::Level::{L0, L1, L2};
-use labels::{Label, Level};
 use machine::{Entry, Labelled, Operation, Part, Refusal};
 use rules::{Cached, Direct, RowTable};
 use sites::{Call, Parts, Reply};

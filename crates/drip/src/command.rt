@@ -7,7 +7,7 @@ use std::error::Error;
 use std::fmt;
 
 // What is asked of the program.
-#[derive(Clone, Copy, Debug, PartialEq, Eq)]
+#[derive(Clone, Copy)]
 pub enum Command<'a> {
     Run(OneSheet<'a>),
     Key(OneSheet<'a>),
@@ -22,14 +22,14 @@ pub enum Command<'a> {
 }
 
 // `drip run SHEET --policy POLICY`, and so `drip key` and `drip trace`
-#[derive(Clone, Copy, Debug, PartialEq, Eq)]
+#[derive(Clone, Copy)]
 pub struct OneSheet<'a> {
     pub file: &'a str,
     pub policy: PolicyName,
 }
 
 // `drip compare SHEET SHEET LABEL --policy POLICY`
-#[derive(Clone, Copy, Debug, PartialEq, Eq)]
+#[derive(Clone, Copy, Debug)]
 pub struct TwoSheets<'a> {
     pub first: &'a str,
     pub second: &'a str,
@@ -38,7 +38,7 @@ pub struct TwoSheets<'a> {
 }
 
 // `drip rules KIND FILE --policy POLICY`
-#[derive(Clone, Copy, Debug, PartialEq, Eq)]
+#[derive(Clone, Copy)]
 pub struct Rules<'a> {
     pub kind: Kind,
     pub policy: PolicyName,
@@ -46,7 +46,7 @@ pub struct Rules<'a> {
 }
 
 // A command by its name.
-#[derive(Clone, Copy, Debug, PartialEq, Eq)]
+#[derive(Clone, Copy, Debug)]
 pub enum Name {
     Run,
     Key,
@@ -59,7 +59,7 @@ pub enum Name {
 }
 
 // What is wrong with a command line.
-#[derive(Clone, Copy, Debug, PartialEq, Eq)]
+#[derive(Clone, Copy, Debug)]
 pub enum Misuse<'a> {
     UnknownCommand(&'a str),
     UnknownKind { file: &'a str, word: &'a str },
@@ -96,16 +96,26 @@ impl Command<'_> {
             Name::Compare => Ok(Command::Compare(Words::parse(heap, name, rest)?.two_sheets()?)),
             Name::Rules => Ok(Command::Rules(Words::parse(heap, name, rest)?.rules()?)),
             Name::Demo => Ok(Command::Demo(Words::parse(heap, name, rest)?.nothing()?)),
-            Name::Help => match rest {
-                [] => Ok(Command::Help(Name::Help)),
-                [topic] => Ok(Command::Help(Name::parse(topic.as_str())?)),
-                [_, extra, ..] => Err(Misuse::TooMany(name, extra)),
-            },
-            Name::Version => match rest {
-                [] => Ok(Command::Version),
-                [extra, ..] => Err(Misuse::TooMany(name, extra)),
-            },
+            Name::Help => help(rest),
+            Name::Version => version(rest),
         }
+    }
+}
+
+// `drip help`, or `drip help COMMAND`
+fn help(words: &[String]) -> Result<Command<'_>, Misuse<'_>> {
+    match words {
+        [] => Ok(Command::Help(Name::Help)),
+        [topic] => Ok(Command::Help(Name::parse(topic.as_str())?)),
+        [_, extra, ..] => Err(Misuse::TooMany(Name::Help, extra)),
+    }
+}
+
+// `drip --version`
+fn version(words: &[String]) -> Result<Command<'_>, Misuse<'_>> {
+    match words {
+        [] => Ok(Command::Version),
+        [extra, ..] => Err(Misuse::TooMany(Name::Version, extra)),
     }
 }
 
@@ -279,7 +289,7 @@ impl fmt::Display for Misuse<'_> {
                 f,
                 "drip: {word:?} is no label of this kind; expected {kind}"
             ),
-            Misuse::Memory => write!(f, "drip: out of memory"),
+            Misuse::Memory => write!(f, "drip: out of memory; expected a shorter command line"),
         }
     }
 }

@@ -4,7 +4,7 @@ use crate::kinds::{self, Task};
 use crate::sheet_file::{self, SheetFile, plan_of};
 use crate::side_by_side::{Conclusion, Run, SideBySide, Unmaking};
 use crate::{Console, Failure};
-use compare::{Compared, Plan, Unmade, compare};
+use compare::{Compared, Plan, compare};
 use policies::{AnyPolicy, PolicyName};
 use readings::Readings;
 use text::label_named;
@@ -61,7 +61,7 @@ impl Task for TwoStations<'_> {
         let second: Plan<AnyPolicy<L>, L> = plan_of(heap, second, self.policy)?;
         let Compared { one, two, report } = match compare(level, first, second) {
             Ok(compared) => compared,
-            Err(why) => return Err(unmade(why, console)),
+            Err(why) => return Err(console.give_up(Unmaking(why))),
         };
         let first = Run::new(heap, level, first_cells.as_slice(), &one)?;
         let second = Run::new(heap, level, second_cells.as_slice(), &two)?;
@@ -77,31 +77,41 @@ impl Task for TwoStations<'_> {
     }
 }
 
-// Prints that a station is not made.
-fn unmade(why: Unmade, console: &mut Console<'_>) -> Failure {
-    match console.line(Unmaking(why)) {
-        Ok(()) => Failure::Told,
-        Err(e) => Failure::Io(e),
-    }
-}
-
 fn print<L: Readings>(both: SideBySide<'_, L>, console: &mut Console<'_>) -> Result<(), Failure> {
-    console.line(both.programs())?;
-    console.line(both.memories())?;
-    console.line(both.calls())?;
-    for untaken in both.untaken(console.heap())?.iter() {
-        console.line(*untaken)?;
-    }
+    print_inputs(&both, console)?;
     console.line("")?;
-    console.line(format_args!("commands at or below {}", both.level))?;
-    console.print(both.table(console.heap())?)?;
-    console.line("")?;
-    console.line(both.commands())?;
-    console.line(both.looks())?;
+    print_given(&both, console)?;
     let conclusion = both.conclusion();
     console.line(conclusion)?;
     match conclusion {
         Conclusion::Same(_) | Conclusion::NotAlike(_) => Ok(()),
         Conclusion::Broken(_) => Err(Failure::Told),
     }
+}
+
+// Prints whether the stations and the calls on them are alike to the observer.
+fn print_inputs<L: Readings>(
+    both: &SideBySide<'_, L>,
+    console: &mut Console<'_>,
+) -> Result<(), Failure> {
+    console.line(both.programs())?;
+    console.line(both.memories())?;
+    console.line(both.calls())?;
+    for untaken in both.untaken(console.heap())?.iter() {
+        console.line(*untaken)?;
+    }
+    Ok(())
+}
+
+// Prints what the observer is given of both.
+fn print_given<L: Readings>(
+    both: &SideBySide<'_, L>,
+    console: &mut Console<'_>,
+) -> Result<(), Failure> {
+    console.line(format_args!("commands at or below {}", both.level))?;
+    console.print(both.table(console.heap())?)?;
+    console.line("")?;
+    console.line(both.commands())?;
+    console.line(both.looks())?;
+    Ok(())
 }

@@ -5,14 +5,14 @@ use std::{fmt, io};
 use text::Fault;
 
 // In which line of which file; line 0 is the file itself.
-#[derive(Debug, Drop)]
+#[derive(Drop)]
 pub struct Complaint<'a> {
     pub file: &'a str,
     pub line: u64,
     pub problem: Problem<'a>,
 }
 
-#[derive(Debug, Drop)]
+#[derive(Drop)]
 pub enum Problem<'a> {
     // The file cannot be opened.
     Unopened(&'a io::Error),

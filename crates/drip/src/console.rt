@@ -48,6 +48,14 @@ impl<'a> Console<'a> {
         }
     }
 
+    // Writes why there is nothing to show, as an answer and not as an error.
+    pub fn give_up<T: Display + Drop>(&mut self, why: T) -> Failure {
+        match self.line(why) {
+            Ok(()) => Failure::Told,
+            Err(e) => Failure::Io(e),
+        }
+    }
+
     fn tell<T: Display + Drop>(&mut self, wrong: T) -> io::Result<()> {
         self.flush()?;
         self.rt.eprintln(wrong)

@@ -2,7 +2,7 @@ use std::alloc::{AllocError, AllocFailed};
 use std::io;
 
 // Why the program ends with status 1.
-#[derive(Debug, Drop)]
+#[derive(Drop)]
 pub enum Failure {
     // What is wrong was told.
     Told,

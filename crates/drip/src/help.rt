@@ -54,7 +54,7 @@ A sheet is plain text, a line for each thing. # starts a comment.
   cell C NUMBER@LABEL what cell C holds
   program             the operations follow, a line each: push NUMBER@LABEL, pop,
                       noop, add, sub, less, load, store, jump, bnz DISTANCE,
-                      call COUNT RESULT, return, output, halt. A line NAME: names
+                      call COUNT DUE, return, output, halt. A line NAME: names
                       the place of the next one. The name can stand for the place
                       as a number, behind bnz for the way there.
   calls               the calls follow, a line each: enter C NUMBER@LABEL, start,

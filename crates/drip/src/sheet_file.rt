@@ -2,9 +2,9 @@
 ghost use Rattle.std.specs.Prelude.{◌≡◌, Ok, IfOk, map};
 ghost use Rattle.rules.specs.Tables.{published};
 ghost use Rattle.policies.specs.AnyPolicy.{AnyFaithful};
+ghost use Rattle.compare.specs.Runs.{own_call};
 ghost use Rattle.sheets.specs.Parts.{GivesParts};
 ghost use Rattle.sheets.specs.Sheets.{ReadsSheet};
-ghost use Rattle.drip.specs.Runs.{own_call};
 
 use crate::{Console, Failure};
 use compare::{Exchange, Plan};

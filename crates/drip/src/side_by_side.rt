@@ -47,7 +47,7 @@ struct Difference<T> {
 struct Had<T>(Option<T>, &'static str);
 
 // An enter or a start that a station did not take, shown as `not taken: enter 1 7@0000, since the second station was running`.
-#[derive(Clone, Copy, Debug, PartialEq, Eq)]
+#[derive(Clone, Copy)]
 pub struct Untaken<L> {
     call: Call<L>,
     which: Which,
@@ -55,7 +55,7 @@ pub struct Untaken<L> {
 }
 
 // How the two lists of commands go together.
-#[derive(Clone, Copy, Debug, PartialEq, Eq)]
+#[derive(Clone, Copy)]
 pub enum Beginning {
     Same,
     // this list is a beginning of the other
@@ -64,14 +64,14 @@ pub enum Beginning {
     Neither(usize),
 }
 
-#[derive(Clone, Copy, Debug, PartialEq, Eq)]
+#[derive(Clone, Copy)]
 pub enum Which {
     First,
     Second,
 }
 
 // What the cells show.
-#[derive(Clone, Copy, Debug, PartialEq, Eq)]
+#[derive(Clone, Copy)]
 pub enum CellsShown<L> {
     Same,
     Differ {
@@ -89,7 +89,7 @@ pub enum CellsShown<L> {
 }
 
 // What follows for the observer at a level.
-#[derive(Clone, Copy, Debug, PartialEq, Eq)]
+#[derive(Clone, Copy)]
 pub enum Conclusion<L> {
     // The stations are alike to him, and he is given nothing that differs.
     Same(L),
@@ -288,7 +288,7 @@ impl<L: Label> SideBySide<'_, L> {
     pub fn conclusion(&self) -> Conclusion<L> {
         if !self.report.says_alike() {
             Conclusion::NotAlike(self.level)
-        } else if self.report.says_same() {
+        } else if self.report.nothing_differs() {
             Conclusion::Same(self.level)
         } else {
             Conclusion::Broken(self.level)

@@ -7,7 +7,6 @@ use crate::trace::print_trace;
 use crate::{Console, Failure};
 use compare::{Plan, Ran};
 use labels::Label;
-use machine::Refusal;
 use policies::{AnyPolicy, PolicyName};
 use readings::Readings;
 use sheets::Sheet;
@@ -49,7 +48,7 @@ impl Task for OneStation<'_> {
                 let policy = AnyPolicy::<L>::named(self.policy);
                 match Site::make(parts, policy) {
                     Ok(site) => print_trace(site, self.policy, calls.as_slice(), console),
-                    Err(why) => Err(unmade(why, console)),
+                    Err(why) => Err(console.give_up(Making(Some(why)))),
                 }
             }
         }
@@ -102,14 +101,7 @@ fn run<L: Label>(
     let plan: Plan<AnyPolicy<L>, L> = plan_of(console.heap(), sheet, policy)?;
     match plan.run() {
         Ok(ran) => Ok(ran),
-        Err(why) => Err(unmade(why, console)),
-    }
-}
-
-fn unmade(why: Refusal, console: &mut Console<'_>) -> Failure {
-    match console.line(Making(Some(why))) {
-        Ok(()) => Failure::Told,
-        Err(e) => Failure::Io(e),
+        Err(why) => Err(console.give_up(Making(Some(why)))),
     }
 }
 

@@ -3,13 +3,13 @@ use std::alloc::{AllocError, Global};
 use std::fmt;
 
 // The side of a column on which its cells stand.
-#[derive(Clone, Copy, Debug, PartialEq, Eq)]
+#[derive(Clone, Copy)]
 pub enum Side {
     Left,
     Right,
 }
 
-#[derive(Clone, Copy, Debug, PartialEq, Eq)]
+#[derive(Clone, Copy)]
 pub struct Column {
     pub side: Side,
     pub width: usize,

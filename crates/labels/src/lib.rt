@@ -54,6 +54,3 @@ pub fn same<L: Label>(a: L, b: L) -> bool
 {
     a.flows_to(b) && b.flows_to(a)
 }
-
-#[cfg(test)]
-mod tests;

@@ -52,8 +52,8 @@ abbrev pub fitting : {A : Type 0} → Option Part → (Part → A) → A → A
 fitting None else then = then
 fitting (Some part) else then = else part
 
--- Of a station made with parts as long as the first four numbers say, handed in as long as the second four say: the first part
--- that is not as long as when it was made.
+-- Of a station made with parts of the first lengths and handed parts of the second: the first part that is not as long as when it
+-- was made.
 abbrev pub not_as_made : Sizes → Sizes → Option Part
 not_as_made sizes lens = first_wrong
     ((part.Program, (lens.program == sizes.program))

@@ -24,7 +24,7 @@ pub fn memory_keeps_length<L: Label>()
     ensures { MemoryKeepsLength L.Label.kind }
 {}
 
-// A shut station's memory and commands never change again.
+// A shut station stays as it is, whatever is called.
 pub fn shut_for_good<L: Label>()
     ensures { ShutForGood L.Label.kind }
 {}

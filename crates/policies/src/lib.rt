@@ -5,4 +5,4 @@ mod any;
 mod name;
 
 pub use any::AnyPolicy;
-pub use name::{PolicyName, UnknownName};
+pub use name::{NotAPolicy, PolicyName};

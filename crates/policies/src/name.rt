@@ -36,24 +36,24 @@ impl fmt::Display for PolicyName {
 
 // A word that is no policy's name.
 #[derive(Clone, Copy, Debug, PartialEq, Eq, Hash)]
-pub struct UnknownName;
+pub struct NotAPolicy;
 
 impl FromStr for PolicyName {
-    type Err = UnknownName;
+    type Err = NotAPolicy;
 
     ghost from_str_gives = { NameRead };
 
-    fn from_str(word: &str) -> Result<PolicyName, UnknownName> {
+    fn from_str(word: &str) -> Result<PolicyName, NotAPolicy> {
         match word {
             "direct" => Ok(PolicyName::Direct),
             "rows" => Ok(PolicyName::Rows),
             "cached" => Ok(PolicyName::Cached),
-            _ => Err(UnknownName),
+            _ => Err(NotAPolicy),
         }
     }
 }
 
-impl fmt::Display for UnknownName {
+impl fmt::Display for NotAPolicy {
     ghost output = { λ _. Some (codes "no policy has this name") };
 
     fn fmt<W: fmt::Write>(&self, f: &mut fmt::Formatter<W>) -> fmt::Result {
@@ -61,4 +61,4 @@ impl fmt::Display for UnknownName {
     }
 }
 
-impl Error for UnknownName {}
+impl Error for NotAPolicy {}

@@ -89,6 +89,3 @@ impl<L: Label> Request<L> {
         self.op == Opcode::Store && !self.a.join(self.pc).flows_to(self.c)
     }
 }
-
-#[cfg(test)]
-mod tests;

@@ -1,4 +1,6 @@
 // What is wrong with a sheet, and how it is told: what is wrong; expected what.
+ghost use Rattle.std.specs.Prelude.{◌≡◌};
+
 use crate::Kind;
 use std::alloc::{AllocError, AllocFailed};
 use std::error::Error;
@@ -71,7 +73,10 @@ pub enum Header {
 
 impl<'a> Problem<'a> {
     // The fault that is this problem in that line.
-    pub fn at(self, line: u64) -> Fault<'a> {
+    pub fn at(self, line: u64) -> Fault<'a>
+        ensures line { result.line ≡ line }
+        ensures problem { result.problem ≡ self.entry }
+    {
         Fault {
             line,
             problem: self,
@@ -79,7 +84,10 @@ impl<'a> Problem<'a> {
     }
 
     // The fault that stands in no line.
-    pub fn nowhere(self) -> Fault<'a> {
+    pub fn nowhere(self) -> Fault<'a>
+        ensures line { result.line ≡ 0 }
+        ensures problem { result.problem ≡ self.entry }
+    {
         self.at(0)
     }
 }

@@ -20,18 +20,18 @@ pub enum KindName {
 
 // The word names no kind of label.
 #[derive(Clone, Copy, Debug, PartialEq, Eq)]
-pub struct UnknownName;
+pub struct NotAKind;
 
 impl FromStr for KindName {
-    type Err = UnknownName;
+    type Err = NotAKind;
 
     ghost from_str_gives = { KindRead };
 
-    fn from_str(word: &str) -> Result<KindName, UnknownName> {
+    fn from_str(word: &str) -> Result<KindName, NotAKind> {
         match word {
             "levels" => Ok(KindName::Levels),
             "growers" => Ok(KindName::Growers),
-            _ => Err(UnknownName),
+            _ => Err(NotAKind),
         }
     }
 }
@@ -58,10 +58,10 @@ impl fmt::Display for KindName {
     }
 }
 
-impl fmt::Display for UnknownName {
+impl fmt::Display for NotAKind {
     fn fmt<W: fmt::Write>(&self, f: &mut fmt::Formatter<W>) -> fmt::Result {
         f.write_str("no kind of label has this name")
     }
 }
 
-impl Error for UnknownName {}
+impl Error for NotAKind {}

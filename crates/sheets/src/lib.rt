@@ -11,6 +11,6 @@ mod settings;
 mod sheet;
 
 pub use fault::{Due, Fault, Header, Problem};
-pub use kind::{Kind, KindName, UnknownName};
+pub use kind::{Kind, KindName, NotAKind};
 pub use settings::kind_of;
 pub use sheet::{Sheet, text_of};

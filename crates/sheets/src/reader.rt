@@ -1,5 +1,5 @@
 // Reading the lines of a sheet, where they may name places of its program.
-ghost use Rattle.std.specs.Prelude.{◌≡◌, ◌<◌, ◌≤◌, ◌∷◌, ◌-ℤ◌, IfOk, None, Some, codes, length, map, unwrap_or};
+ghost use Rattle.std.specs.Prelude.{◌≡◌, ◌<◌, ◌≤◌, ◌-ℤ◌, IfOk, None, Some, codes, length, map, unwrap_or};
 ghost use Rattle.std.specs.List.{slice_index_or, slice_set};
 ghost use Rattle.std.specs.Option.{IfSome};
 ghost use Rattle.text.specs.Words.{words};
@@ -169,7 +169,7 @@ impl<'a> Reader<'a> {
 
     // The operation at that place.
     fn operation<L: Label>(&self, line: &Line<'a>, place: i32) -> Result<Operation<L>, Problem<'a>>
-        ensures { IfOk result (SaysOperation L.Label.text (line.now.first.now ∷ words line.now.rest.0.now)) }
+        ensures { IfOk result (SaysOperation L.Label.text (line_words line.now)) }
     {
         let mut rest = line.rest;
         let operation = match line.first {
@@ -222,7 +222,7 @@ impl<'a> Reader<'a> {
     }
 
     fn call<L: Label>(&self, line: &Line<'a>) -> Result<Call<L>, Problem<'a>>
-        ensures { IfOk result (SaysCall L.Label.text (line.now.first.now ∷ words line.now.rest.0.now)) }
+        ensures { IfOk result (SaysCall L.Label.text (line_words line.now)) }
     {
         let mut rest = line.rest;
         let call = match line.first {

@@ -1,9 +1,10 @@
 // The lines before a program.
-ghost use Rattle.std.specs.Prelude.{◌∷◌, IfOk};
+ghost use Rattle.std.specs.Prelude.{IfOk};
 ghost use Rattle.text.specs.Words.{words};
 ghost use Rattle.sheets.specs.Kinds.{HasKind, KindRead, ReadsKind};
 ghost use Rattle.sheets.specs.Lines.{SaysSetting};
 ghost use Rattle.sheets.specs.Numbers.{CountRead};
+ghost use Rattle.sheets.specs.Sheets.{line_words};
 ghost use Rattle.sheets.specs.Words.{Reads};
 
 use crate::lines::{Line, Words};
@@ -25,7 +26,7 @@ const MOST: u32 = 65_535;
 
 impl<'a> Setting<'a> {
     pub fn read(line: &Line<'a>) -> Result<Setting<'a>, Problem<'a>>
-        ensures { IfOk result (SaysSetting (line.now.first.now ∷ words line.now.rest.0.now)) }
+        ensures { IfOk result (SaysSetting (line_words line.now)) }
     {
         let mut rest = line.rest;
         let setting = match line.first {

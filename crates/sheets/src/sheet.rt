@@ -64,7 +64,7 @@ impl<L: Label> Sheet<L> {
     }
 }
 
-// So many times the same.
+// So many times the same. `Vec::from_elem` clones, and of labels of any kind it is not known that a clone is the same.
 fn filled<T: Copy>(heap: Global, value: T, count: usize) -> Result<Vec<T>, AllocError>
     ensures { IfOk result (λ all. all.items ≡ replicate count value) }
 {

@@ -5,6 +5,8 @@ use Rattle.std.proofs.lemmas.List.{with_items_is}
 use Rattle.std.specs.Vec.{with_items}
 use Rattle.labels.specs.Kind.{Kind}
 use Rattle.rules.specs.Tables.{Table}
+use Rattle.rules.specs.declared.Request.{Request}
+use Rattle.rules.specs.declared.Verdict.{Verdict}
 use Rattle.machine.specs.Stations as stations
 use Rattle.machine.specs.Stations.{Answer, granted, shows, found, refused, Takes, fitting, misfit, not_as_made, memory_of, effect}
 use Rattle.machine.specs.declared.answers.Part.{Part}
@@ -138,10 +140,10 @@ all_as_made s = rw (eq-eqb s.program s.program refl, eq-eqb s.memory s.memory re
 fits : (made lens : Sizes) → made ≡ lens → not_as_made made lens ≡ None
 fits made lens same = subst (λ s. not_as_made made s ≡ None) same (all_as_made made)
 
-module _ {P L : Type 0} (kind : Kind L) (faithful : P → Table L → Type 0) (policy policy' : P) (running : Running L) (parts : Parts L) (fuel : ℕ)
+module _ {P L : Type 0} (kind : Kind L) (faithful : P → Table L → Type 0) (asking : P → Request L → Option (Verdict L) → P → Type 0) (policy policy' : P) (running : Running L) (parts : Parts L) (fuel : ℕ)
     (memory' log' : List (Labelled L)) (stack' : List (Entry L)) where
   abbrev pub Went : Result (Gone L) (Refused L) → Type 0
-  Went = Goes kind faithful policy policy' parts.program.items parts.memory.items memory' parts.stack.items stack' parts.log.items log' fuel running
+  Went = Goes kind faithful asking policy policy' parts.program.items parts.memory.items memory' parts.stack.items stack' parts.log.items log' fuel running
 
   abbrev pub parts_after : Parts L
   parts_after = record parts { memory = with_items parts.memory memory'; stack = with_items parts.stack stack'; log = with_items parts.log log' }

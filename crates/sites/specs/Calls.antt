@@ -87,7 +87,7 @@ module _ {L : Type 0} where
 
 module _ {L : Type 0} (kind : Kind L) where
   -- The reply says what is defined of the call, and the station after it is the one that is defined.
-  pub record Obeys (before left : Sited L) (call : stations.Call L) (reply : Reply L) : Type 0 where
+  pub record AsDefined (before left : Sited L) (call : stations.Call L) (reply : Reply L) : Type 0 where
     pub says : Says reply (answer kind before.setup before.station call) left.station
     pub leaves : left.station ≡ after kind before.setup before.station call
 
@@ -95,6 +95,6 @@ module _ {L : Type 0} (kind : Kind L) where
   -- where the state takes it, and nothing where it does not.
   pub record Does (Stands : Table L → Type 0) (before : Sited L) (call : Call L) (left : Sited L) (reply : Reply L) : Type 0 where
     pub taken : (table : Table L) → Stands table → Takes before.station (meant before.setup.sizes table call)
-        → Obeys before left (meant before.setup.sizes table call) reply
+        → AsDefined before left (meant before.setup.sizes table call) reply
     pub declined : (table : Table L) → (Takes before.station (meant before.setup.sizes table call) → ⊥) → Declines before left reply
     pub setup_kept : left.setup ≡ before.setup

@@ -49,7 +49,7 @@ impl<L: Label> Parts<L> {
         self.lend(policy, station, call)
     }
 
-    // Whether the parts that a call hands in are as long as those.
+    // Whether the parts that a call hands in are as long as the station's own.
     fn pass_for(&self, own: &Parts<L>, call: Call<L>) -> bool
         ensures { (table : Table L) → IsTrue result ↔ (misfit (sizes_of own.now) (meant (sizes_of self.now) table call) ≡ None) }
     {

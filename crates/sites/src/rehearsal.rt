@@ -5,7 +5,6 @@ use crate::Parts;
 use labels::Label;
 use machine::Stop;
 use rules::Policy;
-use std::alloc::AllocError;
 use steps::{Outcome, Registers};
 
 // The round of a station, to be stepped on copies of its parts. A station itself takes no single steps: a go of one unit of fuel
@@ -26,7 +25,7 @@ impl<L: Label> Rehearsal<L> {
 
     // Takes the step that a go with so much fuel would take next, and answers what it comes to.
     pub fn step<P: Policy<L>>(&mut self, policy: &mut P, fuel: u32) -> Result<Outcome<L>, Stop>
-        ensures steps { Steps L.Label.kind P.Policy.faithful policy.old policy.new self.old.parts.program.items self.old.parts.memory.items self.new.parts.memory.items self.old.parts.stack.items self.new.parts.stack.items self.old.parts.log.items self.new.parts.log.items fuel self.old.registers result }
+        ensures steps { Steps L.Label.kind P.Policy.faithful P.Policy.asked policy.old policy.new self.old.parts.program.items self.old.parts.memory.items self.new.parts.memory.items self.old.parts.stack.items self.new.parts.stack.items self.old.parts.log.items self.new.parts.log.items fuel self.old.registers result }
         ensures follows { Follows self.old.registers self.new.registers result }
     {
         match self.registers.step(

@@ -1,7 +1,9 @@
 -- A go, by whether a part is refused for its length.
-use Rattle.std.proofs.Common.{◌≡◌, ℕ, List, None, Some, Ok, Err, Option, refl, sym, ap, ◌∙◌}
+use Rattle.std.proofs.Common.{◌≡◌, ℕ, List, None, Some, Ok, Err, Option, ◌+◌, refl, sym, ap, ◌∙◌}
 use Rattle.labels.specs.Kind.{Kind}
 use Rattle.rules.specs.Tables.{Table}
+use Rattle.rules.specs.declared.Request.{Request}
+use Rattle.rules.specs.declared.Verdict.{Verdict}
 use Rattle.machine.specs.Stations.{Answer, took, refused, fitting, not_as_made}
 use Rattle.machine.specs.declared.answers.Part.{Part}
 use Rattle.machine.specs.declared.answers.Refusal.{Refusal}
@@ -10,7 +12,7 @@ use Rattle.machine.specs.declared.parts.Entry.{Entry}
 use Rattle.machine.specs.declared.parts.Labelled.{Labelled}
 use Rattle.machine.specs.declared.parts.Operation.{Operation}
 use Rattle.machine.specs.declared.parts.Sizes.{Sizes}
-use Rattle.steps.specs.Operations.{round}
+use Rattle.steps.specs.Operations.{round, AtMost}
 use Rattle.station.specs.Goes.{Goes}
 use Rattle.station.specs.Turns.{Runs, ended}
 use Rattle.station.specs.Lengths.{lengths, checked}
@@ -44,16 +46,17 @@ as_it_was (Some part) x y e = refl
 pub as_long : (made : Sizes) {lens handed : Sizes} → lens ≡ handed → Ok tt ≡ checked Length (not_as_made made lens) → made ≡ handed
 as_long made {lens} are checks = as_made made lens (no_misfit _ checks) ∙ are
 
-module _ {P L : Type 0} (kind : Kind L) {faithful : P → Table L → Type 0} {policy : P} {program : List (Operation L)} {memory : List (Labelled L)} {stack : List (Entry L)} {log : List (Labelled L)} (fuel : ℕ) (st : Running L)
+module _ {P L : Type 0} (kind : Kind L) {faithful : P → Table L → Type 0} {effect : P → Request L → Option (Verdict L) → P → Type 0} {policy : P} {program : List (Operation L)} {memory : List (Labelled L)} {stack : List (Entry L)} {log : List (Labelled L)} (fuel : ℕ) (st : Running L)
     {lens : Sizes} (lens_are : lens ≡ lengths program memory stack log) where
   pub go_refused : (why : Refusal) → Err why ≡ checked Length (not_as_made st.sizes lens)
-      → Goes kind faithful policy policy program memory memory stack stack log log fuel st (Err (record { why = why; station = st }))
+      → Goes kind faithful effect policy policy program memory memory stack stack log log fuel st (Err (record { why = why; station = st }))
   go_refused why checked_so =
       let wrong = not_as_made st.sizes (lengths program memory stack log) in
       let checks : Err why ≡ checked Length wrong = checked_so ∙ ap (λ n. checked Length (not_as_made st.sizes n)) lens_are in
       record {
         performs = λ table true. record { answers = refused_so wrong _ checks; leaves = as_it_was wrong _ _ checks };
         still = λ table true. true;
+        asks = refl;
         refuses = λ part is. record {
           answer = ap (λ w. Err (record { why = w; station = st })) (why_is wrong checks is);
           memory_kept = refl;
@@ -68,9 +71,9 @@ module _ {P L : Type 0} (kind : Kind L) {faithful : P → Table L → Type 0} {p
       → Ok tt ≡ checked Length (not_as_made st.sizes lens)
       → Runs kind faithful policy policy' program memory memory' stack stack' log log' fuel st st' ran
       → station_with left memory' stack' log' ≡ ended ran.end (round st'.registers memory' stack' log')
-      → made_sizes left ≡ st.sizes
-      → Goes kind faithful policy policy' program memory memory' stack stack' log log' fuel st (Ok (record { station = left; steps = ran.steps }))
-  go_ran st' ran left checks runs settles keeps =
+      → made_sizes left ≡ st.sizes → AtMost effect (ran.steps + 1) policy policy'
+      → Goes kind faithful effect policy policy' program memory memory' stack stack' log log' fuel st (Ok (record { station = left; steps = ran.steps }))
+  go_ran st' ran left checks runs settles keeps asks =
       let fits = ap (not_as_made st.sizes) (sym lens_are) ∙ no_misfit _ checks in
       let same = as_long st.sizes lens_are checks in
       record {
@@ -78,6 +81,7 @@ module _ {P L : Type 0} (kind : Kind L) {faithful : P → Table L → Type 0} {p
             let went = runs.comes_to table true (made_as program st.sizes) refl (ap (λ s. s.stack) same) (ap (λ s. s.log) same) in
             fitted kind (made_as program st.sizes) _ _ fits (ap (λ gone. took gone.steps) (sym went)) (settles ∙ ap (λ gone. gone.station) (sym went));
         still = runs.still;
+        asks = asks;
         refuses = λ part is. absurd (none_wrong _ is fits);
         accepts = λ none. keeps;
       }

@@ -1,12 +1,38 @@
 -- The steps of a go: each goes on with the fuel that is left, or ends the go.
-use Rattle.std.proofs.Common.{◌≡◌, ℕ, zero, suc, ◌+◌, ◌-◌, ◌<◌, ◌≤◌, None, Some, refl, sym, ap, ◌∙◌, arith}
+use Rattle.std.proofs.Common.{◌≡◌, ℕ, zero, suc, ◌+◌, ◌-◌, ◌<◌, ◌≤◌, None, Some, Option, inl, inr, subst, refl, sym, ap, ◌∙◌, arith}
 use Rattle.labels.specs.Kind.{Kind}
 use Rattle.rules.specs.Tables.{Table}
+use Rattle.rules.specs.declared.Request.{Request}
+use Rattle.rules.specs.declared.Verdict.{Verdict}
+use Rattle.steps.specs.Operations.{AtMost, AtMostOnce}
 use Rattle.machine.specs.Stations.{Station, running, Gone, settled, run_steps}
 use Rattle.machine.specs.Steps.{Setup, Round, step}
 use Rattle.station.specs.Turns.{ended, came_to}
 use Rattle.station.specs.declared.running.End.{End}
 use Rattle.station.specs.declared.running.End.TheVariants.{Finished, OutOfFuel, Stopped}
+
+-- A policy that was asked at most so many times, and once more.
+module _ {P L : Type 0} (effect : P → Request L → Option (Verdict L) → P → Type 0) where
+  pub asked_last : (before between after : P) (n : ℕ) → AtMost effect n before between → AtMostOnce effect between after (λ answer. Unit {0}) → AtMost effect (n + 1) before after
+  asked_last before between after n so_far once =
+      let one : suc n ≡ n + 1 = omega arith in
+      subst (λ k. AtMost effect k before after) one (between, (so_far, once))
+
+  -- and not once more
+  pub not_asked : (before after : P) (n k : ℕ) → n ≡ k → AtMost effect n before after → AtMost effect (k + 1) before after
+  not_asked before after n k same so_far =
+      let one : suc n ≡ k + 1 = omega (arith, same) in
+      subst (λ i. AtMost effect i before after) one (after, (so_far, inl refl))
+
+  pub asked_on : (before between after : P) (fuel left : ℕ) → left ≤ fuel → 0 < left → AtMost effect (fuel - left) before between → AtMostOnce effect between after (λ answer. Unit {0}) → AtMost effect (fuel - (left - 1)) before after
+  asked_on before between after fuel left within some so_far once =
+      let one : suc (fuel - left) ≡ fuel - (left - 1) = omega arith in
+      subst (λ k. AtMost effect k before after) one (between, (so_far, once))
+
+  -- an answer that was heeded or not
+  pub once : {before after : P} {Heeds : Option (Verdict L) → Type 0} → AtMostOnce effect before after Heeds → AtMostOnce effect before after (λ answer. Unit {0})
+  once (inl same) = inl same
+  once (inr (q, (answer, (did, heeded)))) = inr (q, (answer, (did, tt)))
 
 module _ {L : Type 0} where
   abbrev pub gone_to : Station L → ℕ → Gone L

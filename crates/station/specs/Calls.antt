@@ -2,7 +2,7 @@
 use Rattle.std.specs.Prelude.{◌≡◌, ℕ, List, length, Ok, Err, Option, Result}
 use Rattle.labels.specs.Kind.{Kind}
 use Rattle.machine.specs.Stations as stations
-use Rattle.machine.specs.Stations.{Station, Call, Answer, granted, shows, took, found, refused, setup, make, fitting, not_as_made, answer, after}
+use Rattle.machine.specs.Stations.{Station, Call, Answer, granted, shows, found, refused, setup, make, answer, after}
 use Rattle.machine.specs.Steps.{Setup}
 use Rattle.machine.specs.declared.answers.Refusal.{Refusal}
 use Rattle.machine.specs.declared.parts.Entry.{Entry}

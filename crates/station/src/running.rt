@@ -59,13 +59,13 @@ fn by_fields<L: Copy>(registers: Registers<L>) -> Registers<L>
 }
 
 impl<L: Label> Running<L> {
-    ghost use Rattle.std.specs.Prelude.{List, length};
+    ghost use Rattle.std.specs.Prelude.{◌+◌, List, length};
     ghost use Rattle.station.specs.Lengths.{lengths};
     ghost use Rattle.station.specs.Goes.{Goes};
     ghost use Rattle.station.specs.Turns.{Turns, Runs, Rests, ended};
     ghost use Rattle.station.specs.Calls.{Asks};
     ghost use Rattle.station.specs.Views.{running_with, station_with, made_sizes};
-    ghost use Rattle.steps.specs.Operations.{round};
+    ghost use Rattle.steps.specs.Operations.{round, AtMost, AtMostOnce};
     ghost use Rattle.machine.specs.declared.parts.Entry.{Entry as EntryD};
     ghost use Rattle.machine.specs.declared.parts.Labelled.{Labelled as LabelledD};
 
@@ -79,7 +79,7 @@ impl<L: Label> Running<L> {
         policy: &mut P,
         fuel: u32,
     ) -> Result<Gone<L>, Refused<L>>
-        ensures { Goes L.Label.kind P.Policy.faithful policy.old policy.new program.now memory.old memory.new stack.old stack.new log.old log.new fuel self result }
+        ensures { Goes L.Label.kind P.Policy.faithful P.Policy.asked policy.old policy.new program.now memory.old memory.new stack.old stack.new log.old log.new fuel self result }
     {
         if let Err(why) = check_lengths(sizes_of(program, memory, stack, log), self.sizes) {
             return Err(Refused { why, station: self });
@@ -116,6 +116,7 @@ impl<L: Label> Running<L> {
     ) -> Ran
         requires as_made { self.old.sizes ≡ lengths program.now memory.old stack.old log.old }
         ensures runs { Runs L.Label.kind P.Policy.faithful policy.old policy.new program.now memory.old memory.new stack.old stack.new log.old log.new fuel self.old self.new result }
+        ensures asks { AtMost P.Policy.asked (result.steps + 1) policy.old policy.new }
         ensures sizes { self.new.sizes ≡ self.old.sizes }
     {
         let mut left = fuel;
@@ -146,7 +147,7 @@ impl<L: Label> Running<L> {
         }
     }
 
-    // Takes one step, which writes the record whole, or comes to an end and leaves all as it was.
+    // Takes one step, which puts the registers after it in place of these, or comes to an end and leaves all as it was.
     fn step<P: Policy<L>>(
         &mut self,
         program: &[Operation<L>],
@@ -158,6 +159,7 @@ impl<L: Label> Running<L> {
     ) -> Option<End>
         requires as_made { self.old.sizes ≡ lengths program.now memory.old stack.old log.old }
         ensures turns { Turns L.Label.kind P.Policy.faithful policy.old policy.new program.now memory.old memory.new stack.old stack.new log.old log.new fuel self.old self.new result }
+        ensures asks { AtMostOnce P.Policy.asked policy.old policy.new (λ answer. Unit {0}) }
         ensures sizes { self.new.sizes ≡ self.old.sizes }
     {
         match self

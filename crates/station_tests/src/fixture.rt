@@ -70,16 +70,16 @@ pub struct Parts<L> {
 
 impl<L: Label> Parts<L> {
     // Parts of these lengths, with noops and 0@bottom.
-    pub fn blank(alloc: Global, sizes: Sizes) -> Result<Parts<L>, AllocError> {
+    pub fn blank(heap: Global, sizes: Sizes) -> Result<Parts<L>, AllocError> {
         let zero = Labelled {
             value: 0,
             label: L::bottom(),
         };
         let mut parts = Parts {
-            program: Vec::new(alloc),
-            memory: Vec::new(alloc),
-            stack: Vec::new(alloc),
-            log: Vec::new(alloc),
+            program: Vec::new(heap),
+            memory: Vec::new(heap),
+            stack: Vec::new(heap),
+            log: Vec::new(heap),
         };
         parts.program.resize(sizes.program, Operation::Noop)?;
         parts.memory.resize(sizes.memory, zero)?;
@@ -90,7 +90,7 @@ impl<L: Label> Parts<L> {
 
     // A program and a memory, with a stack for 64 entries and a log for 64 commands.
     pub fn of(
-        alloc: Global,
+        heap: Global,
         program: &[Operation<L>],
         memory: &[Labelled<L>],
     ) -> Result<Parts<L>, AllocError> {
@@ -100,7 +100,7 @@ impl<L: Label> Parts<L> {
             stack: 64,
             log: 64,
         };
-        let mut parts = Parts::blank(alloc, sizes)?;
+        let mut parts = Parts::blank(heap, sizes)?;
         parts.program.extend_from_slice(program)?;
         parts.memory.extend_from_slice(memory)?;
         Ok(parts)

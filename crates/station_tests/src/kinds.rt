@@ -152,13 +152,13 @@ impl<L: Label + Debug + PartialEq> Labels<L> {
 
     fn all(
         &self,
-        alloc: Global,
+        heap: Global,
         numbers: &[Labelled<Role>],
     ) -> Result<Vec<Labelled<L>>, AllocError> {
         numbers
             .iter()
             .map(|number| self.labelled(*number))
-            .collect(alloc)
+            .collect(heap)
     }
 
     // Runs a case with these labels in their roles, under each policy that is true to the published rows.
@@ -168,22 +168,22 @@ impl<L: Label + Debug + PartialEq> Labels<L> {
         kind: &str,
         case: &Case<Role>,
     ) -> Result<(), Fail> {
-        let alloc = rt.alloc();
+        let heap = rt.alloc();
         let what = case.name;
-        let name = format!(in alloc; "{kind}, {what}")?;
+        let name = format!(in heap; "{kind}, {what}")?;
         let program: Vec<Operation<L>> = case
             .program
             .iter()
             .map(|operation| self.operation(*operation))
-            .collect(alloc)?;
-        let memory = self.all(alloc, case.memory)?;
-        let cells = self.all(alloc, case.cells)?;
+            .collect(heap)?;
+        let memory = self.all(heap, case.memory)?;
+        let cells = self.all(heap, case.cells)?;
         let stack: Vec<Entry<L>> = case
             .stack
             .iter()
             .map(|entry| self.entry(*entry))
-            .collect(alloc)?;
-        let log = self.all(alloc, case.log)?;
+            .collect(heap)?;
+        let log = self.all(heap, case.log)?;
         let case = Case {
             name: name.as_str(),
             program: program.as_slice(),

@@ -1,5 +1,5 @@
 -- The first elements of a lent part, the newest first, as the code reads and writes them.
-use Rattle.std.proofs.Common.{◌≡◌, ℕ, ◌+◌, ◌-◌, ◌<◌, ◌≤◌, List, [], ◌∷◌, ◌++◌, reverse, length, take, set, refl, sym, ap, ◌∙◌, arith}
+use Rattle.std.proofs.Common.{◌≡◌, ℕ, ◌+◌, ◌<◌, ◌≤◌, List, [], ◌∷◌, ◌++◌, reverse, length, take, set, refl, sym, ap, ◌∙◌, arith}
 use Rattle.std.proofs.lemmas.List.{take_all, take_at, take-take, length-take, take-append-le, length-append, length-reverse, length-take-le, take_more_set, reverse-append}
 use Rattle.steps.specs.Walks.{newest}
 
@@ -37,6 +37,3 @@ module _ {A : Type 0} where
   -- of the first n elements alone
   pub newest_first : (xs : List A) (n : ℕ) → n ≤ length xs → newest (length (take n xs)) (take n xs) ≡ newest n xs
   newest_first xs n within = ap reverse (take_all (length (take n xs)) (take n xs) (omega arith))
-
-  pub newest_under : (xs : List A) (n : ℕ) → n ≤ length xs → newest (length (take n xs) - 1) (take n xs) ≡ newest (n - 1) xs
-  newest_under xs n within = ap (λ k. newest (k - 1) (take n xs)) (length-take-le n xs within) ∙ ap reverse (take-take (n - 1) n xs (omega arith))

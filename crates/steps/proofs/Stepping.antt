@@ -1,7 +1,9 @@
 -- What an operation comes to, and one step, by what stands at the program counter.
-use Rattle.std.proofs.Common.{◌≡◌, ◌≢◌, ℕ, zero, suc, ◌<◌, false, cond, List, Some, None, Ok, Err, Result, IsOkAnd, MatchResult, refl, sym, ap, subst, ◌∙◌, arith}
+use Rattle.std.proofs.Common.{◌≡◌, ◌≢◌, ℕ, zero, suc, ◌<◌, false, cond, List, Some, None, Option, inl, inr, Ok, Err, Result, IsOkAnd, MatchResult, refl, sym, ap, subst, ◌∙◌, arith}
 use Rattle.labels.specs.Kind.{Kind}
 use Rattle.rules.specs.Tables.{Table}
+use Rattle.rules.specs.declared.Request.{Request}
+use Rattle.rules.specs.declared.Verdict.{Verdict}
 use Rattle.machine.specs.Steps.{Setup, Round, later, stopped, at_place, halts, halted, tried, attempt, step}
 use Rattle.machine.specs.declared.answers.Stop.{Stop}
 use Rattle.machine.specs.declared.answers.Stop.TheVariants.{OutsideProgram}
@@ -9,8 +11,8 @@ use Rattle.machine.specs.declared.parts.Entry.{Entry}
 use Rattle.machine.specs.declared.parts.Labelled.{Labelled}
 use Rattle.machine.specs.declared.parts.Operation.{Operation}
 use Rattle.machine.specs.declared.parts.Operation.TheVariants.{Push, Pop, Noop, Add, Sub, Less, Load, Store, Jump, Bnz, Call, Return, Output, Halt}
-use Rattle.steps.specs.Operations.{round, Does}
-use Rattle.steps.specs.Steps.{NotDone, OnlyDoneChanges, DoneFits, Halts, Attempted, Steps, Waits}
+use Rattle.steps.specs.Operations.{round, Heeded, AtMostOnce, Does}
+use Rattle.steps.specs.Steps.{HeededStep, NotDone, OnlyDoneChanges, DoneFits, Halts, Attempted, Steps, Waits}
 use Rattle.steps.specs.declared.registers.Registers.{Registers}
 use Rattle.steps.specs.declared.step.Outcome.{Outcome as CodeOutcome}
 use Rattle.steps.specs.declared.step.Outcome.TheVariants.{Finished, Later, Done}
@@ -62,25 +64,38 @@ module _ {L : Type 0} where
   fuelled kind table setup op zero s not some = absurd (omega arith)
   fuelled kind table setup op (suc fuel) s not some = ap (λ b. cond b (halted kind table setup s) (tried kind table setup op s)) not
 
-  module _ (kind : Kind L) {P : Type 0} {faithful : P → Table L → Type 0} {policy : P} {op : Operation L} {memory log : List (Labelled L)} {stack : List (Entry L)} {fuel : ℕ} {before : Registers L} where
-    pub attempted_halt : (stack' : List (Entry L)) (answer : Result (CodeOutcome L) Stop) → op ≡ Halt → stack' ≡ stack → Halts kind before answer → Attempted kind faithful policy policy op memory memory stack stack' log log fuel before answer
+  module _ {P : Type 0} (effect : P → Request L → Option (Verdict L) → P → Type 0) {policy policy' : P} where
+    done_heeded : (q : Registers L) → AtMostOnce effect policy policy' (λ given. Heeded given (Ok q)) → AtMostOnce effect policy policy' (λ given. HeededStep given (Ok (Done q)))
+    done_heeded q (inl same) = inl same
+    done_heeded q (inr (asked, (Some v, (did, heeded)))) = inr (asked, (Some v, (did, tt)))
+    done_heeded q (inr (asked, (None, (did, never)))) = absurd never
+
+    stop_heeded : (stop : Stop) → AtMostOnce effect policy policy' (λ given. Heeded {A = Registers L} given (Err stop)) → AtMostOnce effect policy policy' (λ given. HeededStep given (Err stop))
+    stop_heeded stop (inl same) = inl same
+    stop_heeded stop (inr (asked, (Some v, (did, never)))) = absurd never
+    stop_heeded stop (inr (asked, (None, (did, heeded)))) = inr (asked, (None, (did, heeded)))
+
+  module _ (kind : Kind L) {P : Type 0} {faithful : P → Table L → Type 0} {effect : P → Request L → Option (Verdict L) → P → Type 0} {policy : P} {op : Operation L} {memory log : List (Labelled L)} {stack : List (Entry L)} {fuel : ℕ} {before : Registers L} where
+    pub attempted_halt : (stack' : List (Entry L)) (answer : Result (CodeOutcome L) Stop) → op ≡ Halt → stack' ≡ stack → Halts kind before answer → Attempted kind faithful effect policy policy op memory memory stack stack' log log fuel before answer
     attempted_halt stack' answer is same halt =
-        let went : Attempted kind faithful policy policy op memory memory stack stack log log fuel before answer = record {
+        let went : Attempted kind faithful effect policy policy op memory memory stack stack log log fuel before answer = record {
           comes_to = λ table true setup _ _. halt.comes_to table setup memory log stack ∙ sym (ap (attempt kind table setup fuel (round before memory stack log)) is);
           still = λ table true. true;
+          asks = inl refl;
           keeps_memory = keeps answer memory halt.not_done;
           keeps_stack = keeps answer stack halt.not_done;
           keeps_log = keeps answer log halt.not_done;
           fits = not_done_fits fuel _ _ answer halt.not_done;
         } in
-        subst (λ s. Attempted kind faithful policy policy op memory memory stack s log log fuel before answer) (sym same) went
+        subst (λ s. Attempted kind faithful effect policy policy op memory memory stack s log log fuel before answer) (sym same) went
 
     pub attempted : {policy' : P} {memory' log' : List (Labelled L)} {stack' : List (Entry L)} (r : Result (Registers L) Stop) → halts op ≡ false → 0 < fuel
-        → Does faithful policy policy' memory memory' stack stack' log log' before r (λ table setup. tried kind table setup op)
-        → Attempted kind faithful policy policy' op memory memory' stack stack' log log' fuel before (answer_of r)
+        → Does faithful effect policy policy' memory memory' stack stack' log log' before r (λ table setup. tried kind table setup op)
+        → Attempted kind faithful effect policy policy' op memory memory' stack stack' log log' fuel before (answer_of r)
     attempted {policy'} {memory'} {log'} {stack'} (Ok q) not some did = record {
       comes_to = λ table true setup stacks logs. did.comes_to table true setup stacks logs ∙ sym (fuelled kind table setup op fuel _ not some);
       still = did.still;
+      asks = done_heeded effect q did.asks;
       keeps_memory = tt;
       keeps_stack = tt;
       keeps_log = tt;
@@ -89,6 +104,7 @@ module _ {L : Type 0} where
     attempted {policy'} {memory'} {log'} {stack'} (Err stop) not some did = record {
       comes_to = λ table true setup stacks logs. did.comes_to table true setup stacks logs ∙ sym (fuelled kind table setup op fuel _ not some);
       still = did.still;
+      asks = stop_heeded effect stop did.asks;
       keeps_memory = did.keeps_memory;
       keeps_stack = did.keeps_stack;
       keeps_log = did.keeps_log;
@@ -96,11 +112,11 @@ module _ {L : Type 0} where
     }
 
   -- An operation that was found to be another, which is no halt, with parts, registers and a result that are these.
-  pub found_as : (kind : Kind L) {P : Type 0} {faithful : P → Table L → Type 0} {policy policy' policy'' : P} {op op' : Operation L} {memory memory' memory'' log log' log'' : List (Labelled L)}
+  pub found_as : (kind : Kind L) {P : Type 0} {faithful : P → Table L → Type 0} {effect : P → Request L → Option (Verdict L) → P → Type 0} {policy policy' policy'' : P} {op op' : Operation L} {memory memory' memory'' log log' log'' : List (Labelled L)}
       {stack stack' whole whole' : List (Entry L)} {before before' : Registers L} {r r' : Result (Registers L) Stop}
       → op ≡ op' → halts op' ≡ false → stack ≡ whole → before ≡ before' → policy' ≡ policy'' → memory' ≡ memory'' → stack' ≡ whole' → log' ≡ log'' → r ≡ r'
-      → Does faithful policy policy'' memory memory'' whole whole' log log'' before' r' (λ table setup. tried kind table setup op')
-      → (halts op ≡ false) × Does faithful policy policy' memory memory' stack stack' log log' before r (λ table setup. tried kind table setup op)
+      → Does faithful effect policy policy'' memory memory'' whole whole' log log'' before' r' (λ table setup. tried kind table setup op')
+      → (halts op ≡ false) × Does faithful effect policy policy' memory memory' stack stack' log log' before r (λ table setup. tried kind table setup op)
   found_as kind op_is no_halt stack_is before_is policy_is memory_is after_is log_is r_is did = (
     ap halts op_is ∙ no_halt,
     rw (op_is, stack_is, before_is, policy_is, memory_is, after_is, log_is, r_is) did,
@@ -116,12 +132,13 @@ module _ {L : Type 0} (kind : Kind L) (table : Table L) (setup : Setup L) (fuel 
   pub steps_on : (op : Operation L) → at_place program s.pc None Some ≡ Some op → step kind table setup fuel s ≡ attempt kind table setup fuel s op
   steps_on op there = fetch ∙ place_there _ _ program s.pc op there
 
-module _ {L : Type 0} (kind : Kind L) {P : Type 0} {faithful : P → Table L → Type 0} {policy : P} {program : List (Operation L)} {memory log : List (Labelled L)} {stack : List (Entry L)} {fuel : ℕ} (before : Registers L) where
+module _ {L : Type 0} (kind : Kind L) {P : Type 0} {faithful : P → Table L → Type 0} {effect : P → Request L → Option (Verdict L) → P → Type 0} {policy : P} {program : List (Operation L)} {memory log : List (Labelled L)} {stack : List (Entry L)} {fuel : ℕ} (before : Registers L) where
   pub steps_stopped : {answer : Result (CodeOutcome L) Stop} → answer ≡ Err OutsideProgram → at_place program before.pc None Some ≡ None
-      → Steps kind faithful policy policy program memory memory stack stack log log fuel before answer
+      → Steps kind faithful effect policy policy program memory memory stack stack log log fuel before answer
   steps_stopped is none = rw is (record {
     comes_to = λ table true setup programs _ _. sym (steps_outside kind table setup fuel (round before memory stack log) program programs none);
     still = λ table true. true;
+    asks = inl refl;
     keeps_memory = refl;
     keeps_stack = refl;
     keeps_log = refl;
@@ -129,11 +146,12 @@ module _ {L : Type 0} (kind : Kind L) {P : Type 0} {faithful : P → Table L →
   })
 
   pub steps_attempted : {policy' : P} {memory' log' : List (Labelled L)} {stack' : List (Entry L)} {answer : Result (CodeOutcome L) Stop} (op : Operation L) → at_place program before.pc None Some ≡ Some op
-      → Attempted kind faithful policy policy' op memory memory' stack stack' log log' fuel before answer
-      → Steps kind faithful policy policy' program memory memory' stack stack' log log' fuel before answer
+      → Attempted kind faithful effect policy policy' op memory memory' stack stack' log log' fuel before answer
+      → Steps kind faithful effect policy policy' program memory memory' stack stack' log log' fuel before answer
   steps_attempted op there went = record {
     comes_to = λ table true setup programs stacks logs. went.comes_to table true setup stacks logs ∙ sym (steps_on kind table setup fuel (round before memory stack log) program programs op there);
     still = went.still;
+    asks = went.asks;
     keeps_memory = went.keeps_memory;
     keeps_stack = went.keeps_stack;
     keeps_log = went.keeps_log;

@@ -1,11 +1,12 @@
 -- What an operation in code does, in the words of the machine's step. Assumes nothing.
-use Rattle.std.specs.Prelude.{◌≡◌, ℕ, ◌≤◌, List, ◌++◌, length, take, ℤ, Ok, Err, Option, Result}
+use Rattle.std.specs.Prelude.{◌≡◌, ℕ, zero, suc, ◌≤◌, List, ◌++◌, length, take, ℤ, ◌⊎◌, Some, None, Ok, Err, Option, Result}
 use Rattle.rules.specs.Tables.{Table}
 use Rattle.rules.specs.declared.Opcode.{Opcode}
 use Rattle.rules.specs.declared.Request.{Request}
 use Rattle.rules.specs.declared.Verdict.{Verdict}
 use Rattle.machine.specs.Steps.{Setup, Round, Outcome, stopped, done, ◌at◌, ruled}
 use Rattle.machine.specs.declared.answers.Stop.{Stop}
+use Rattle.machine.specs.declared.answers.Stop.TheVariants.{Forbidden}
 use Rattle.machine.specs.declared.parts.Labelled.{Labelled}
 use Rattle.machine.specs.declared.parts.Entry.{Entry}
 use Rattle.steps.specs.Walks.{newest}
@@ -26,6 +27,13 @@ module _ {L : Type 0} where
   abbrev pub Rules : Option (Verdict L) → Result (Verdict L) Stop → Type 0
   Rules answer (Ok v) = (then : L → L → Outcome L) → ruled answer then ≡ then v.pc v.result
   Rules answer (Err stop) = (then : L → L → Outcome L) → ruled answer then ≡ stopped stop
+
+  -- What a policy answered was heeded: a verdict where something came of it, and none where it is forbidden.
+  abbrev pub Heeded : {A : Type 0} → Option (Verdict L) → Result A Stop → Type 0
+  Heeded (Some v) (Ok x) = Unit {0}
+  Heeded (Some v) (Err stop) = ⊥
+  Heeded None (Ok x) = ⊥
+  Heeded None (Err stop) = stop ≡ Forbidden
 
   -- Registers with the memory, the stack and the log, as the running station that the definitions speak of.
   abbrev pub round : Registers L → List (Labelled L) → List (Entry L) → List (Labelled L) → Round L
@@ -59,19 +67,31 @@ module _ {L : Type 0} where
   Fits stack log (Ok r) = (r.depth ≤ stack) × (r.commands ≤ log)
   Fits stack log (Err stop) = Unit {0}
 
-module _ {P L : Type 0} (faithful : P → Table L → Type 0) where
-  -- What holds of every table that a policy is true to before, and that it is true to these tables after.
-  pub record Under (before after : P) (Holds : Table L → Type 0) : Type 0 where
+-- The policy was not asked and is as it was, or it was asked once, and the answer was heeded.
+abbrev pub AtMostOnce : {P L : Type 0} → (P → Request L → Option (Verdict L) → P → Type 0) → P → P → (Option (Verdict L) → Type 0) → Type 0
+AtMostOnce {P} {L} asked before after Heeds = (after ≡ before) ⊎ ((q : Request L) × ((answer : Option (Verdict L)) × (asked before q answer after × Heeds answer)))
+
+-- The policy was asked so many times at most, one after the other.
+abbrev pub AtMost : {P L : Type 0} → (P → Request L → Option (Verdict L) → P → Type 0) → ℕ → P → P → Type 0
+AtMost {P} {L} asked zero before after = after ≡ before
+AtMost {P} {L} asked (suc n) before after = (between : P) × (AtMost asked n before between × AtMostOnce asked between after (λ answer. Unit {0}))
+
+module _ {P L : Type 0} (faithful : P → Table L → Type 0) (asked : P → Request L → Option (Verdict L) → P → Type 0) where
+  -- What holds of every table that a policy is true to before, that it is true to these tables after, and that it was asked at most once.
+  pub record Under (before after : P) (Heeds : Option (Verdict L) → Type 0) (Holds : Table L → Type 0) : Type 0 where
     pub holds : (table : Table L) → faithful before table → Holds table
     pub still : (table : Table L) → faithful before table → faithful after table
+    pub asks : AtMostOnce asked before after Heeds
 
   -- An operation, with what each part holds before and after it: over every table that the policy is true to it comes to what is
-  -- defined. Whatever the policy, a stop leaves the parts as they were, and what is in use fits.
+  -- defined. Whatever the policy, it is asked at most once, a stop leaves the parts as they were, and what is in use
+  -- fits.
   pub record Does (policy policy' : P) (memory memory' : List (Labelled L)) (stack stack' : List (Entry L)) (log log' : List (Labelled L)) (before : Registers L) (r : Result (Registers L) Stop) (defined : Table L → Setup L → Round L → Outcome L) : Type 0 where
     pub comes_to : (table : Table L) → faithful policy table
         → (setup : Setup L) → setup.sizes.stack ≡ length stack → setup.sizes.log ≡ length log
         → outcome r (λ q. round q memory' stack' log') ≡ defined table setup (round before memory stack log)
     pub still : (table : Table L) → faithful policy table → faithful policy' table
+    pub asks : AtMostOnce asked policy policy' (λ answer. Heeded answer r)
     pub keeps_memory : StopKeeps r memory memory'
     pub keeps_stack : StopKeeps r stack stack'
     pub keeps_log : StopKeeps r log log'

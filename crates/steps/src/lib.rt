@@ -7,6 +7,5 @@ mod registers;
 mod step;
 mod walks;
 
-pub use place::Place;
-pub use registers::{Fetched, Registers};
+pub use registers::Registers;
 pub use step::Outcome;

@@ -7,7 +7,7 @@ ghost use Rattle.machine.specs.Steps.{tried, arithmetic as arithmetic_on, return
 ghost use Rattle.machine.specs.declared.parts.Entry.{Entry as EntryD};
 ghost use Rattle.machine.specs.declared.parts.Labelled.{Labelled as LabelledD};
 ghost use Rattle.machine.specs.declared.parts.Operation.TheVariants.{Push, Pop, Noop, Load, Store, Jump, Bnz, Call, Return, Output};
-ghost use Rattle.steps.specs.Operations.{labelled as labelled_with, registers as registers_of, placed, starting, request as request_of, Rules, Under, Does, OnStack, OnMemory};
+ghost use Rattle.steps.specs.Operations.{labelled as labelled_with, registers as registers_of, placed, starting, request as request_of, Rules, Heeded, Under, Does, OnStack, OnMemory};
 ghost use Rattle.steps.specs.Walks.{newest};
 
 use crate::registers::{Fetched, Registers};
@@ -30,7 +30,7 @@ fn relabelled<L: Copy>(number: Labelled<L>, label: L) -> Labelled<L>
 // Asks the policy. It is inlined into each operation, where all but that operation's own rule falls away.
 #[inline(always)]
 fn ask<P: Policy<L>, L: Label>(policy: &mut P, request: Request<L>) -> Result<Verdict<L>, Stop>
-    ensures { Under P.Policy.faithful policy.old policy.new (λ table. Rules (table request) result) }
+    ensures { Under P.Policy.faithful P.Policy.asked policy.old policy.new (λ answer. Heeded answer result) (λ table. Rules (table request) result) }
 {
     policy.rule(request).ok_or(Stop::Forbidden)
 }
@@ -72,14 +72,14 @@ impl<L: Label> Fetched<L> {
         self.goto(self.pc.next(), pc_label, depth)
     }
 
-    pub fn push<P: Policy<L>>(
+    pub(crate) fn push<P: Policy<L>>(
         self,
         number: &Labelled<L>,
         depth: usize,
         stack: &mut [Entry<L>],
         policy: &mut P,
     ) -> Result<Registers<L>, Stop>
-        ensures { (memory log : List (LabelledD L)) → self.commands ≤ length log → Does P.Policy.faithful policy.old policy.new memory memory stack.old stack.new log log (starting (placed self) depth) result (λ table setup. tried L.Label.kind table setup (Push number.now)) }
+        ensures { (memory log : List (LabelledD L)) → self.commands ≤ length log → Does P.Policy.faithful P.Policy.asked policy.old policy.new memory memory stack.old stack.new log log (starting (placed self) depth) result (λ table setup. tried L.Label.kind table setup (Push number.now)) }
     {
         if depth >= stack.len() {
             return Err(Stop::StackFull);
@@ -96,8 +96,12 @@ impl<L: Label> Fetched<L> {
     }
 
     // pop, bnz and jump begin with the same two calls. A function for them would be no shorter.
-    pub fn pop<P: Policy<L>>(self, used: &[Entry<L>], policy: &mut P) -> Result<Registers<L>, Stop>
-        ensures { OnStack P.Policy.faithful policy.old policy.new used.now used.now (placed self) result (λ table setup. tried L.Label.kind table setup Pop) }
+    pub(crate) fn pop<P: Policy<L>>(
+        self,
+        used: &[Entry<L>],
+        policy: &mut P,
+    ) -> Result<Registers<L>, Stop>
+        ensures { OnStack P.Policy.faithful P.Policy.asked policy.old policy.new used.now used.now (placed self) result (λ table setup. tried L.Label.kind table setup Pop) }
     {
         let a = top_number(used)?;
         let verdict = ask(
@@ -110,23 +114,27 @@ impl<L: Label> Fetched<L> {
         Ok(self.next(verdict.pc, used.len() - 1))
     }
 
-    pub fn noop<P: Policy<L>>(self, depth: usize, policy: &mut P) -> Result<Registers<L>, Stop>
-        ensures { (stack : List (EntryD L)) → depth ≤ length stack → (memory log : List (LabelledD L)) → self.commands ≤ length log → Does P.Policy.faithful policy.old policy.new memory memory stack stack log log (starting (placed self) depth) result (λ table setup. tried L.Label.kind table setup Noop) }
+    pub(crate) fn noop<P: Policy<L>>(
+        self,
+        depth: usize,
+        policy: &mut P,
+    ) -> Result<Registers<L>, Stop>
+        ensures { (stack : List (EntryD L)) → depth ≤ length stack → (memory log : List (LabelledD L)) → self.commands ≤ length log → Does P.Policy.faithful P.Policy.asked policy.old policy.new memory memory stack stack log log (starting (placed self) depth) result (λ table setup. tried L.Label.kind table setup Noop) }
     {
         let verdict = ask(policy, request(self.pc_label, Opcode::Noop))?;
         Ok(self.next(verdict.pc, depth))
     }
 
-    // An operation that makes one number of two by a rule, which is given the lower one first.
-    pub fn arithmetic<P: Policy<L>, F: FnOnce(i32, i32) -> i32>(
+    // An operation that combines two numbers to one; it is given the lower one first.
+    pub(crate) fn arithmetic<P: Policy<L>, F: FnOnce(i32, i32) -> i32>(
         self,
         op: Opcode,
-        rule: F,
+        combine: F,
         used: &mut [Entry<L>],
         policy: &mut P,
     ) -> Result<Registers<L>, Stop>
-        requires { F.IsAlwaysCallable rule }
-        ensures { (applied : ℤ → ℤ → ℤ) → ((b a r : ℤ) → FitsSigned w32 b → FitsSigned w32 a → F.post rule b a r → r ≡ applied b a) → OnStack P.Policy.faithful policy.old policy.new used.old used.new (placed self) result (λ table setup. arithmetic_on L.Label.kind table setup op applied) }
+        requires { F.IsAlwaysCallable combine }
+        ensures { (applied : ℤ → ℤ → ℤ) → ((b a r : ℤ) → FitsSigned w32 b → FitsSigned w32 a → F.post combine b a r → r ≡ applied b a) → OnStack P.Policy.faithful P.Policy.asked policy.old policy.new used.old used.new (placed self) result (λ table setup. arithmetic_on L.Label.kind table setup op applied) }
     {
         let (b, a) = top_two(used)?;
         let depth = used.len() - 1;
@@ -139,7 +147,7 @@ impl<L: Label> Fetched<L> {
             },
         )?;
         let result = Labelled {
-            value: rule(b.value, a.value),
+            value: combine(b.value, a.value),
             label: verdict.result,
         };
         // By its index: the entry is there, and `last_mut` would ask again whether it is.
@@ -147,13 +155,13 @@ impl<L: Label> Fetched<L> {
         Ok(self.next(verdict.pc, depth))
     }
 
-    pub fn load<P: Policy<L>>(
+    pub(crate) fn load<P: Policy<L>>(
         self,
         memory: &[Labelled<L>],
         used: &mut [Entry<L>],
         policy: &mut P,
     ) -> Result<Registers<L>, Stop>
-        ensures { (free : List (EntryD L)) (log : List (LabelledD L)) → self.commands ≤ length log → Does P.Policy.faithful policy.old policy.new memory.now memory.now (used.old ++ free) (used.new ++ free) log log (starting (placed self) (length used.old)) result (λ table setup. tried L.Label.kind table setup Load) }
+        ensures { (free : List (EntryD L)) (log : List (LabelledD L)) → self.commands ≤ length log → Does P.Policy.faithful P.Policy.asked policy.old policy.new memory.now memory.now (used.old ++ free) (used.new ++ free) log log (starting (placed self) (length used.old)) result (λ table setup. tried L.Label.kind table setup Load) }
     {
         let a = top_number(used)?;
         let Found { element: cell, .. } = find_cell(memory, a)?;
@@ -171,13 +179,13 @@ impl<L: Label> Fetched<L> {
         Ok(self.next(verdict.pc, depth))
     }
 
-    pub fn store<P: Policy<L>>(
+    pub(crate) fn store<P: Policy<L>>(
         self,
         memory: &mut [Labelled<L>],
         used: &[Entry<L>],
         policy: &mut P,
     ) -> Result<Registers<L>, Stop>
-        ensures { OnMemory P.Policy.faithful policy.old policy.new memory.old memory.new used.now (placed self) result (λ table setup. tried L.Label.kind table setup Store) }
+        ensures { OnMemory P.Policy.faithful P.Policy.asked policy.old policy.new memory.old memory.new used.now (placed self) result (λ table setup. tried L.Label.kind table setup Store) }
     {
         let (b, a) = top_two(used)?;
         let Found {
@@ -197,13 +205,13 @@ impl<L: Label> Fetched<L> {
         Ok(self.next(verdict.pc, used.len() - 2))
     }
 
-    pub fn bnz<P: Policy<L>>(
+    pub(crate) fn bnz<P: Policy<L>>(
         self,
         by: i32,
         used: &[Entry<L>],
         policy: &mut P,
     ) -> Result<Registers<L>, Stop>
-        ensures { OnStack P.Policy.faithful policy.old policy.new used.now used.now (placed self) result (λ table setup. tried L.Label.kind table setup (Bnz by)) }
+        ensures { OnStack P.Policy.faithful P.Policy.asked policy.old policy.new used.now used.now (placed self) result (λ table setup. tried L.Label.kind table setup (Bnz by)) }
     {
         let a = top_number(used)?;
         let verdict = ask(
@@ -216,14 +224,14 @@ impl<L: Label> Fetched<L> {
         Ok(self.goto(self.pc.branch(by, a.value), verdict.pc, used.len() - 1))
     }
 
-    pub fn call<P: Policy<L>>(
+    pub(crate) fn call<P: Policy<L>>(
         self,
         count: u8,
         due: bool,
         used: &mut [Entry<L>],
         policy: &mut P,
     ) -> Result<Registers<L>, Stop>
-        ensures { OnStack P.Policy.faithful policy.old policy.new used.old used.new (placed self) result (λ table setup. tried L.Label.kind table setup (Call count due)) }
+        ensures { OnStack P.Policy.faithful P.Policy.asked policy.old policy.new used.old used.new (placed self) result (λ table setup. tried L.Label.kind table setup (Call count due)) }
     {
         let a = top_number(used)?;
         let depth = used.len();
@@ -248,13 +256,13 @@ impl<L: Label> Fetched<L> {
     }
 
     // The log is lent whole, with how many of its commands are in use, since it has a fixed length.
-    pub fn output<P: Policy<L>>(
+    pub(crate) fn output<P: Policy<L>>(
         self,
         used: &[Entry<L>],
         log: &mut [Labelled<L>],
         policy: &mut P,
     ) -> Result<Registers<L>, Stop>
-        ensures { (free : List (EntryD L)) (memory : List (LabelledD L)) → self.commands ≤ length log.old → Does P.Policy.faithful policy.old policy.new memory memory (used.now ++ free) (used.now ++ free) log.old log.new (starting (placed self) (length used.now)) result (λ table setup. tried L.Label.kind table setup Output) }
+        ensures { (free : List (EntryD L)) (memory : List (LabelledD L)) → self.commands ≤ length log.old → Does P.Policy.faithful P.Policy.asked policy.old policy.new memory memory (used.now ++ free) (used.now ++ free) log.old log.new (starting (placed self) (length used.now)) result (λ table setup. tried L.Label.kind table setup Output) }
     {
         let a = top_number(used)?;
         if self.commands >= log.len() {
@@ -278,8 +286,12 @@ impl<L: Label> Fetched<L> {
 
 // The operations that go to another place whatever this one is.
 impl<L: Label> Registers<L> {
-    pub fn jump<P: Policy<L>>(self, used: &[Entry<L>], policy: &mut P) -> Result<Registers<L>, Stop>
-        ensures { OnStack P.Policy.faithful policy.old policy.new used.now used.now self result (λ table setup. tried L.Label.kind table setup Jump) }
+    pub(crate) fn jump<P: Policy<L>>(
+        self,
+        used: &[Entry<L>],
+        policy: &mut P,
+    ) -> Result<Registers<L>, Stop>
+        ensures { OnStack P.Policy.faithful P.Policy.asked policy.old policy.new used.now used.now self result (λ table setup. tried L.Label.kind table setup Jump) }
     {
         let a = top_number(used)?;
         let verdict = ask(
@@ -297,12 +309,12 @@ impl<L: Label> Registers<L> {
         })
     }
 
-    pub fn return_to_frame<P: Policy<L>>(
+    pub(crate) fn return_to_frame<P: Policy<L>>(
         self,
         used: &mut [Entry<L>],
         policy: &mut P,
     ) -> Result<Registers<L>, Stop>
-        ensures { OnStack P.Policy.faithful policy.old policy.new used.old used.new self result (λ table setup. tried L.Label.kind table setup Return) }
+        ensures { OnStack P.Policy.faithful P.Policy.asked policy.old policy.new used.old used.new self result (λ table setup. tried L.Label.kind table setup Return) }
     {
         let Found {
             index,
@@ -323,7 +335,7 @@ impl<L: Label> Registers<L> {
         policy: &mut P,
     ) -> Result<Registers<L>, Stop>
         requires { index < length used.old }
-        ensures { OnStack P.Policy.faithful policy.old policy.new used.old used.new self result (λ table setup. return_to L.Label.kind table setup true frame (newest index used.old)) }
+        ensures { OnStack P.Policy.faithful P.Policy.asked policy.old policy.new used.old used.new self result (λ table setup. return_to L.Label.kind table setup true frame (newest index used.old)) }
     {
         let a = top_number(used)?;
         let verdict = ask(
@@ -349,7 +361,7 @@ impl<L: Label> Registers<L> {
         frame: Frame<L>,
         policy: &mut P,
     ) -> Result<Registers<L>, Stop>
-        ensures { (used : List (EntryD L)) → index < length used → OnStack P.Policy.faithful policy.old policy.new used used self result (λ table setup. return_to L.Label.kind table setup false frame (newest index used)) }
+        ensures { (used : List (EntryD L)) → index < length used → OnStack P.Policy.faithful P.Policy.asked policy.old policy.new used used self result (λ table setup. return_to L.Label.kind table setup false frame (newest index used)) }
     {
         let verdict = ask(
             policy,

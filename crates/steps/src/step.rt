@@ -1,7 +1,7 @@
 // One step: what the operation at the program counter comes to.
 ghost use Rattle.std.specs.Prelude.{◌≡◌, ℕ, ◌<◌, ◌≤◌, length};
 ghost use Rattle.steps.specs.Places.{InProgram};
-ghost use Rattle.steps.specs.Steps.{Attempted, Halts, Steps, Waits};
+ghost use Rattle.steps.specs.Steps.{Attempted, Fetches, Halts, Steps, Waits};
 
 use crate::place::Place;
 use crate::registers::{Fetched, Registers};
@@ -20,6 +20,18 @@ pub enum Outcome<L> {
 }
 
 impl<L: Label> Registers<L> {
+    // The operation at the program counter.
+    #[inline(always)]
+    fn fetch(self, program: &[Operation<L>]) -> Result<&Operation<L>, Stop>
+        requires program_fits { length program.now ≤ 4096 }
+        ensures { Fetches program.now self.pc result }
+    {
+        match find(program, self.pc) {
+            Some(found) => Ok(found.element),
+            None => Err(Stop::OutsideProgram),
+        }
+    }
+
     // At halt the round is finished if the label of the program counter is bottom.
     fn halted(self) -> Result<Outcome<L>, Stop>
         ensures { Halts L.Label.kind self result }
@@ -44,7 +56,7 @@ impl<L: Label> Registers<L> {
         requires in_program { InProgram self.pc }
         requires stack_holds { self.depth ≤ length stack.old }
         requires log_holds { self.commands ≤ length log.old }
-        ensures { Attempted L.Label.kind P.Policy.faithful policy.old policy.new op.now memory.old memory.new stack.old stack.new log.old log.new fuel self result }
+        ensures { Attempted L.Label.kind P.Policy.faithful P.Policy.asked policy.old policy.new op.now memory.old memory.new stack.old stack.new log.old log.new fuel self result }
     {
         if fuel == 0 && !matches!(op, Operation::Halt) {
             return Ok(Outcome::Later);
@@ -56,7 +68,7 @@ impl<L: Label> Registers<L> {
         };
         let (used, _) = stack.split_at_mut(self.depth);
         // The match is the interpreter: each operation reaches other parts, so a table of functions would have to lend all to each.
-        // The rules are closures, since a proof knows nothing of what `i32::wrapping_add` gives when it is passed by that name.
+        // What combines two numbers is a closure, since a proof knows nothing of what `i32::wrapping_add` gives when it is passed by that name.
         let done = match op {
             Operation::Halt => return self.halted(),
             Operation::Push(number) => fetched.push(number, self.depth, stack, policy),
@@ -96,10 +108,10 @@ impl<L: Label> Registers<L> {
         requires program_fits { length program.now ≤ 4096 }
         requires stack_holds { self.depth ≤ length stack.old }
         requires log_holds { self.commands ≤ length log.old }
-        ensures { Steps L.Label.kind P.Policy.faithful policy.old policy.new program.now memory.old memory.new stack.old stack.new log.old log.new fuel self result }
+        ensures { Steps L.Label.kind P.Policy.faithful P.Policy.asked policy.old policy.new program.now memory.old memory.new stack.old stack.new log.old log.new fuel self result }
     {
-        let found = find(program, self.pc).ok_or(Stop::OutsideProgram)?;
-        self.attempt(found.element, memory, stack, log, policy, fuel)
+        let op = self.fetch(program)?;
+        self.attempt(op, memory, stack, log, policy, fuel)
     }
 
     // One step with no fuel left, which does no operation: a halt is decided, and any other operation waits. It is a function of
@@ -108,8 +120,7 @@ impl<L: Label> Registers<L> {
         requires program_fits { length program.now ≤ 4096 }
         ensures { Waits L.Label.kind program.now self result }
     {
-        let found = find(program, self.pc).ok_or(Stop::OutsideProgram)?;
-        match found.element {
+        match self.fetch(program)? {
             Operation::Halt => self.halted(),
             _ => Ok(Outcome::Later),
         }

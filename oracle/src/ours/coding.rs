@@ -81,7 +81,12 @@ impl<L> Action<L> {
 
 /// Decodes all, or nothing if one of them codes nothing.
 fn all<T, U>(items: &[T], decode: impl Fn(&T) -> Option<U>) -> Option<Vec<U>> {
-    items.iter().map(decode).collect()
+    // Collecting would start with little room, since any item may end it.
+    let mut all = Vec::with_capacity(items.len());
+    for item in items {
+        all.push(decode(item)?);
+    }
+    Some(all)
 }
 
 pub fn program<L: Code>(program: &[plan::Operation]) -> Option<Vec<Operation<L>>> {

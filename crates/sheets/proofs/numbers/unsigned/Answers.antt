@@ -6,7 +6,6 @@ use Rattle.std.specs.Int.RustNames.{FitsSigned}
 use Rattle.std.proofs.lemmas.Int.{to_z-of_z}
 use Rattle.sheets.specs.Numbers.{Between}
 use Rattle.sheets.proofs.numbers.unsigned.Goals as goal
-use Rattle.sheets.proofs.numbers.unsigned.Goals.{After-number_between}
 
 fits : (n : ℕ) → n < 2 ^ 32 → FitsSigned w64 (pos n)
 fits n small = record { sfits = omega (arith, small) }

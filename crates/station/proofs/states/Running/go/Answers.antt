@@ -11,4 +11,4 @@ run-end-requires g c = record { as_made = as_long c.args.self.sizes c.sizes_of.e
 pub returns : goal.returns
 returns g c =
     let runs = c.run-end.ensures in
-    go_ran g.L.Label.kind c.args.fuel c.args.self c.sizes_of.ensures c.run-end.new.self c.run-end.result c.settle.result c.in_default.ensures runs.runs (c.settle.ensures.settled _ _ _) (c.settle.ensures.sizes ∙ runs.sizes)
+    go_ran g.L.Label.kind c.args.fuel c.args.self c.sizes_of.ensures c.run-end.new.self c.run-end.result c.settle.result c.in_default.ensures runs.runs (c.settle.ensures.settled _ _ _) (c.settle.ensures.sizes ∙ runs.sizes) runs.asks

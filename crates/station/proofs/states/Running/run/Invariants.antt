@@ -3,7 +3,7 @@ use Rattle.rules.specs.Tables.{Table}
 use Rattle.machine.specs.Stations.{run_steps}
 use Rattle.machine.specs.Steps.{Setup}
 use Rattle.station.proofs.Runs.{after_more}
-use Rattle.steps.specs.Operations.{round}
+use Rattle.steps.specs.Operations.{round, AtMost}
 use Rattle.station.proofs.states.Running.run.Given as goal
 
 -- The steps so far, and those with the fuel left, are the steps of the go.
@@ -11,6 +11,7 @@ abbrev pub invariant-loop-left : goal.invariant-loop-left
 invariant-loop-left g l = record {
   left : l.left ≤ l.fn.fuel;
   sizes : l.self.sizes ≡ l.fn.self.sizes;
+  asks : AtMost g.P.Policy.asked (l.fn.fuel - l.left) l.fn.policy l.policy;
   still : (table : Table g.row.L.Denot) → g.P.Policy.faithful l.fn.policy table → g.P.Policy.faithful l.policy table;
   runs : (table : Table g.row.L.Denot) → g.P.Policy.faithful l.fn.policy table
       → (setup : Setup g.row.L.Denot) → setup.program ≡ l.program → setup.sizes.stack ≡ length l.fn.stack → setup.sizes.log ≡ length l.fn.log

@@ -1,18 +1,18 @@
 use Rattle.std.proofs.Common.{◌≡◌, refl, sym, ◌∙◌, arith, Ok, Err, w32, w64, SFits, to_z, of_z, rules}
 use Rattle.steps.specs.Operations.{placed}
-use Rattle.steps.proofs.Doing.{asked, used_hands_on, used_does, done_place}
+use Rattle.steps.proofs.Doing.{asked, used_hands_on, used_does, done_place, allowed, forbidden, unasked}
 use Rattle.machine.specs.Steps.{branch}
 use Rattle.std.proofs.lemmas.Int.{to_z-of_z}
 use Rattle.steps.proofs.registers.Fetched.bnz.Goals as goal
 
 pub returns-in_err-a : goal.returns-in_err-a
 returns-in_err-a g c free memory log room =
-    used_hands_on (placed c.args.self) c.args.used.now free c.from_residual.ensures.1 (λ table true. true) (λ table true setup _. c.in_err-a.ensures _)
+    used_hands_on (placed c.args.self) c.args.used.now free c.from_residual.ensures.1 unasked (λ table true setup _. c.in_err-a.ensures _)
 
 pub returns-in_err-verdict : goal.returns-in_err-verdict
 returns-in_err-verdict g c free memory log room =
     let asks = asked (λ q. record q { a = c.in_ok-a.a.label }) (Err c.in_err-verdict.field-0.0) c.request.ensures c.in_err-verdict.ensures in
-    used_hands_on (placed c.args.self) c.args.used.now free c.from_residual-in_err-verdict.ensures.1 asks.still
+    used_hands_on (placed c.args.self) c.args.used.now free c.from_residual-in_err-verdict.ensures.1 (forbidden asks)
     (λ table true setup logs. c.in_ok-a.ensures.1 _ ∙ asks.holds table true _)
 
 pub returns : goal.returns
@@ -23,5 +23,5 @@ returns g c free memory log room =
     let branched = c.branch-self.ensures in
     let same : to_z w64 (of_z w64 c.branch-self.result) ≡ branch c.args.self.pc.number c.args.by c.in_ok-a.a.value = grind (arith, to_z-of_z) in
     let a = c.in_ok-a.ensures in
-    used_does (placed c.args.self) c.args.used.now free _ c.goto.ensures asks.still refl (omega arith) room
+    used_does (placed c.args.self) c.args.used.now free _ c.goto.ensures (allowed asks) refl (omega arith) room
     (λ table true setup _. done_place same ∙ sym (a.1 _ ∙ asks.holds table true _))

@@ -1,6 +1,6 @@
 use Rattle.std.proofs.Common.{◌≡◌, ◌-◌, ◌<◌, ◌∷◌, ◌++◌, length, take, drop, ℤ, pos, ◌+ℤ◌, sym, ap, ◌∙◌, arith, Ok, Err, w32, w64, SFits, to_z, of_z, rules}
 use Rattle.steps.specs.Operations.{placed}
-use Rattle.steps.proofs.Doing.{asked, used_stops, used_hands_on, used_does, done_stack, done_place}
+use Rattle.steps.proofs.Doing.{asked, used_stops, used_hands_on, used_does, done_stack, done_place, allowed, forbidden, unasked}
 use Rattle.steps.proofs.Stacks.{newest_first, length_newest}
 use Rattle.steps.specs.Walks.{newest, numbers_on_top}
 use Rattle.machine.specs.declared.parts.Entry.{Entry}
@@ -12,7 +12,7 @@ use Rattle.steps.proofs.registers.Fetched.call.Goals as goal
 
 pub returns-in_err-a : goal.returns-in_err-a
 returns-in_err-a g c free memory log room =
-    used_hands_on (placed c.args.self) c.args.used.now free c.from_residual.ensures.1 (λ table true. true) (λ table true setup _. c.in_err-a.ensures _)
+    used_hands_on (placed c.args.self) c.args.used.now free c.from_residual.ensures.1 unasked (λ table true setup _. c.in_err-a.ensures _)
 
 pub returns-then-not-has_numbers : goal.returns-then-not-has_numbers
 returns-then-not-has_numbers g c free memory log room =
@@ -21,7 +21,7 @@ returns-then-not-has_numbers g c free memory log room =
     let below = newest (n - 1) used in
     let counted = leb-false c.from-arguments.result _ (sym c.if-not-has_numbers.ensures) in
     let few : numbers_on_top below < c.args.count = omega (arith, ap numbers_on_top (newest_first used (n - 1) (omega arith))) in
-    used_stops (placed c.args.self) used free (λ table true. true)
+    used_stops (placed c.args.self) used free unasked
     (λ table true setup _. c.in_ok-a.ensures.1 _ ∙ takes_too_many c.args.count below _ few)
 
 pub returns-in_err-verdict : goal.returns-in_err-verdict
@@ -31,7 +31,7 @@ returns-in_err-verdict g c free memory log room =
     let below = newest (n - 1) used in
     let enough = enough_numbers used (n - 1) c.from-arguments.result c.args.count (omega arith) c.from-arguments.ensures c.if-not-has_numbers.ensures in
     let asks = asked (λ q. record q { a = c.in_ok-a.a.label }) (Err c.in_err-verdict.field-0.0) c.request.ensures c.in_err-verdict.ensures in
-    used_hands_on (placed c.args.self) used free c.from_residual-in_err-verdict.ensures.1 asks.still
+    used_hands_on (placed c.args.self) used free c.from_residual-in_err-verdict.ensures.1 (forbidden asks)
     (λ table true setup _. c.in_ok-a.ensures.1 _ ∙ takes_all c.args.count below _ enough ∙ asks.holds table true _)
 
 pub insert_under-requires : goal.insert_under-requires
@@ -61,7 +61,7 @@ returns g c free memory log room =
     ∙ ap (λ n. take n below ++ frame (to_z w64 (of_z w64 c.next.result)) ∷ drop n below) c.from-arguments.ensures
     ∙ ap (λ place. take c.args.count below ++ frame place ∷ drop c.args.count below) next
     ∙ taken_onto c.args.count below (frame (c.args.self.pc.number +ℤ pos 1)) enough in
-    used_does (placed c.args.self) used free _ c.goto.ensures asks.still (omega arith) (omega arith) room
+    used_does (placed c.args.self) used free _ c.goto.ensures (allowed asks) (omega arith) (omega arith) room
     (λ table true setup _.
     done_place place ∙ done_stack inserted
     ∙ sym (a.1 _ ∙ takes_all c.args.count below _ enough ∙ asks.holds table true _))

@@ -1,6 +1,6 @@
 use Rattle.std.proofs.Common.{◌-◌, ◌∷◌, length, refl, sym, ap, ◌∙◌, arith, Ok, Err, length-set}
 use Rattle.steps.specs.Operations.{placed}
-use Rattle.steps.proofs.Doing.{asked, used_hands_on, used_does, done_stack}
+use Rattle.steps.proofs.Doing.{asked, used_hands_on, used_does, done_stack, allowed, forbidden, unasked}
 use Rattle.steps.proofs.Stacks.{newest_put}
 use Rattle.steps.specs.Walks.{newest}
 use Rattle.machine.specs.declared.parts.Entry.TheVariants.{Number}
@@ -8,16 +8,16 @@ use Rattle.steps.proofs.registers.Fetched.load.Goals as goal
 
 pub returns-in_err-a : goal.returns-in_err-a
 returns-in_err-a g c free log room =
-    used_hands_on (placed c.args.self) c.args.used.now free c.from_residual.ensures.1 (λ table true. true) (λ table true setup _. c.in_err-a.ensures _)
+    used_hands_on (placed c.args.self) c.args.used.now free c.from_residual.ensures.1 unasked (λ table true setup _. c.in_err-a.ensures _)
 
 pub returns-in_err-cell : goal.returns-in_err-cell
 returns-in_err-cell g c free log room =
-    used_hands_on (placed c.args.self) c.args.used.now free c.from_residual-in_err-cell.ensures.1 (λ table true. true) (λ table true setup _. c.in_ok-a.ensures.1 _ ∙ c.in_err-cell.ensures _)
+    used_hands_on (placed c.args.self) c.args.used.now free c.from_residual-in_err-cell.ensures.1 unasked (λ table true setup _. c.in_ok-a.ensures.1 _ ∙ c.in_err-cell.ensures _)
 
 pub returns-in_err-verdict : goal.returns-in_err-verdict
 returns-in_err-verdict g c free log room =
     let asks = asked (λ q. record q { a = c.in_ok-a.a.label; b = c.in_ok-cell.field-0.element.label }) (Err c.in_err-verdict.field-0.0) c.request.ensures c.in_err-verdict.ensures in
-    used_hands_on (placed c.args.self) c.args.used.now free c.from_residual-in_err-verdict.ensures.1 asks.still
+    used_hands_on (placed c.args.self) c.args.used.now free c.from_residual-in_err-verdict.ensures.1 (forbidden asks)
     (λ table true setup logs. c.in_ok-a.ensures.1 _ ∙ c.in_ok-cell.ensures.2 _ ∙ asks.holds table true _)
 
 pub returns : goal.returns
@@ -27,7 +27,7 @@ returns g c free log room =
     let n = length used in
     let a = c.in_ok-a.ensures in
     let written = newest_put used n (n - 1) refl (omega arith) (omega arith) in
-    used_does (placed c.args.self) c.args.used.now free _ c.next.ensures asks.still (length-set _ _ _) (omega arith) room
+    used_does (placed c.args.self) c.args.used.now free _ c.next.ensures (allowed asks) (length-set _ _ _) (omega arith) room
     (λ table true setup _.
     done_stack (written ∙ ap (λ e. e ∷ newest (n - 1) used) c.write_entry.ensures ∙ ap (λ v. Number v ∷ newest (n - 1) used) c.relabelled.ensures)
     ∙ sym (a.1 _ ∙ c.in_ok-cell.ensures.2 _ ∙ asks.holds table true _))

@@ -26,7 +26,7 @@ returns g c =
     let before = here ∙ ap (λ depth. registers (to_z w64 (of_z w64 self.pc)) self.pc_label depth self.commands) (sym c.split_at_mut-used.ensures.front_len) in
     let whole = subst (λ s. self.depth ≤ length s) split c.requires.stack_holds in
     let m = c.match-op in
-    let did : (halts c.args.op.now ≡ false) × Does g.P.Policy.faithful c.args.policy.now m.policy memory m.memory c.args.stack.now m.stack log m.log c.args.self m.done (λ table setup. tried kind table setup c.args.op.now) =
+    let did : (halts c.args.op.now ≡ false) × Does g.P.Policy.faithful g.P.Policy.asked c.args.policy.now m.policy memory m.memory c.args.stack.now m.stack log m.log c.args.self m.done (λ table setup. tried kind table setup c.args.op.now) =
     elim m.branch [
       | in-Push w ↦ found_as kind w.in-Push.number-1-own.given.1 refl split here w.policy-is w.memory-is w.stack-is w.log-is w.done-is (w.push-done.ensures memory log room)
       | in-Pop w ↦ found_as kind w.in-Pop.is refl split before w.policy-is w.memory-is w.stack-is w.log-is w.done-is (w.pop-done.ensures free memory log room)

@@ -1,5 +1,5 @@
 use Rattle.std.proofs.Common.{◌+◌, ◌∷◌, refl, sym, ap, ◌∙◌, arith, Ok, Err, w64, SFits, rules, length-set}
-use Rattle.steps.proofs.Doing.{asked, used_hands_on, used_does, done_stack, done_place}
+use Rattle.steps.proofs.Doing.{asked, used_hands_on, used_does, done_stack, done_place, allowed, forbidden, unasked}
 use Rattle.steps.proofs.Stacks.{newest_put}
 use Rattle.steps.specs.Walks.{newest}
 use Rattle.std.proofs.lemmas.Int.{to_z-of_z}
@@ -8,12 +8,12 @@ use Rattle.steps.proofs.registers.Registers.return_number.Goals as goal
 
 pub returns-in_err-a : goal.returns-in_err-a
 returns-in_err-a g c free memory log room =
-    used_hands_on c.args.self c.args.used.now free c.from_residual.ensures.1 (λ table true. true) (λ table true setup _. c.in_err-a.ensures _)
+    used_hands_on c.args.self c.args.used.now free c.from_residual.ensures.1 unasked (λ table true setup _. c.in_err-a.ensures _)
 
 pub returns-in_err-verdict : goal.returns-in_err-verdict
 returns-in_err-verdict g c free memory log room =
     let asks = asked (λ q. record q { a = c.args.frame.label; b = c.in_ok-a.a.label }) (Err c.in_err-verdict.field-0.0) c.request.ensures c.in_err-verdict.ensures in
-    used_hands_on c.args.self c.args.used.now free c.from_residual-in_err-verdict.ensures.1 asks.still
+    used_hands_on c.args.self c.args.used.now free c.from_residual-in_err-verdict.ensures.1 (forbidden asks)
     (λ table true setup logs. c.in_ok-a.ensures.1 _ ∙ asks.holds table true _)
 
 pub returns : goal.returns
@@ -23,7 +23,7 @@ returns g c free memory log room =
     let used = c.args.used.now in
     let index = c.args.index in
     let written = newest_put used (index + 1) index refl refl c.requires in
-    used_does c.args.self c.args.used.now free _ refl asks.still (length-set _ _ _) (omega arith) room
+    used_does c.args.self c.args.used.now free _ refl (allowed asks) (length-set _ _ _) (omega arith) room
     (λ table true setup _.
     done_place (to_z-of_z w64 c.args.frame.place fits)
     ∙ done_stack (written ∙ ap (λ e. e ∷ newest index used) c.write_entry.ensures ∙ ap (λ v. Number v ∷ newest index used) c.relabelled.ensures)

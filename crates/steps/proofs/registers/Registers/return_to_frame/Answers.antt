@@ -2,12 +2,12 @@ use Rattle.std.proofs.Common.{length, ap, ◌∙◌}
 use Rattle.machine.specs.Steps.{return_to}
 use Rattle.steps.specs.Operations.{round, starting}
 use Rattle.steps.specs.Walks.{newest}
-use Rattle.steps.proofs.Doing.{used_hands_on, used_defined_as}
+use Rattle.steps.proofs.Doing.{used_hands_on, used_defined_as, unasked}
 use Rattle.steps.proofs.registers.Registers.return_to_frame.Goals as goal
 
 pub returns-in_err-index : goal.returns-in_err-index
 returns-in_err-index g c free memory log room =
-    used_hands_on c.args.self c.args.used.now free c.from_residual.ensures.1 (λ table true. true) (λ table true setup _. c.in_err-index.ensures _)
+    used_hands_on c.args.self c.args.used.now free c.from_residual.ensures.1 unasked (λ table true setup _. c.in_err-index.ensures _)
 
 pub returns-then-frame : goal.returns-then-frame
 returns-then-frame g c free memory log room =

@@ -1,25 +1,20 @@
-use Rattle.std.proofs.Common.{◌≡◌, Some, None, Err, sym, ap, ◌∙◌, w64, SFits, rules}
-use Rattle.std.proofs.lemmas.Int.{to_z-of_z}
+use Rattle.std.proofs.Common.{Err, ap, ◌∙◌}
 use Rattle.std.proofs.lemmas.Result.{err_from_is_err_and}
-use Rattle.machine.specs.Steps.{at_place}
-use Rattle.machine.specs.declared.answers.Stop.TheVariants.{OutsideProgram}
 use Rattle.steps.proofs.Stepping.{steps_stopped, steps_attempted}
 use Rattle.steps.proofs.registers.Registers.step.Goals as goal
 
-pub returns-in_err-found : goal.returns-in_err-found
-returns-in_err-found g c =
-    let fits : SFits w64 c.args.self.pc = search rules in
-    let none = rw c.in_err-found.ensures.ok_part at c.find.ensures in
-    let stopped = rw c.in_err-found.ensures.ok_part at c.in_err-found.ensures.value in
-    let stop : c.in_err-found.field-0.0 ≡ OutsideProgram = cc in
+pub returns-in_err-op : goal.returns-in_err-op
+returns-in_err-op g c =
+    let outside = rw c.in_err-op.was at c.fetch.ensures in
     let handed_on = err_from_is_err_and c.from_residual.result c.from_residual.ensures.1 in
-    steps_stopped g.L.Label.kind c.args.self (handed_on.1 ∙ ap Err (handed_on.2 ∙ stop))
-    (ap (λ place. at_place c.args.program.now place None Some) (sym (to_z-of_z w64 c.args.self.pc fits)) ∙ none)
+    steps_stopped g.L.Label.kind c.args.self (handed_on.1 ∙ ap Err (handed_on.2 ∙ outside.1)) outside.0
 
 pub returns : goal.returns
 returns g c =
-    let fits : SFits w64 c.args.self.pc = search rules in
-    let found = rw c.in_ok-found.ensures.ok_part at c.find.ensures in
-    steps_attempted g.L.Label.kind c.args.self c.in_ok-found.found.element.now
-    (ap (λ place. at_place c.args.program.now place None Some) (sym (to_z-of_z w64 c.args.self.pc fits)) ∙ found.2)
-    c.attempt.ensures
+    let fetched = rw c.in_ok-op.was at c.fetch.ensures in
+    steps_attempted g.L.Label.kind c.args.self c.in_ok-op.op.now fetched.1 c.attempt.ensures
+
+pub attempt-requires-clause-in_program : goal.attempt-requires-clause-in_program
+attempt-requires-clause-in_program g c =
+    let fetched = rw c.in_ok-op.was at c.fetch.ensures in
+    fetched.0
