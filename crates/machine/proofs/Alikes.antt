@@ -1,4 +1,4 @@
--- Numbers, memories and stacks that an observer at o cannot tell apart. Assumes nothing.
+-- Numbers, memories and stacks that an observer at o cannot tell apart.
 use Rattle.std.proofs.Common.{◌≡◌, Bool, true, false, cond, List, [], ◌∷◌, ℤ, sym, refl, ap, subst, ap₂, inl, inr}
 use Rattle.labels.specs.Kind.{Kind}
 use Rattle.machine.specs.Lists.{Each, none, more}

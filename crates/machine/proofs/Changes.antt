@@ -1,10 +1,10 @@
 -- What a step comes to at all, under any table. An operation is done only with fuel and only if the table allows some request; commands
--- are only added, the memory stays as long, and stack and log hold no more than their sizes if they did before. Assumes nothing.
+-- are only added, the memory stays as long, and stack and log hold no more than their sizes if they did before.
 use Rattle.std.proofs.Common.{◌≡◌, ℕ, suc, ◌+◌, ◌≤◌, Bool, true, false, ltb, List, [], ◌∷◌, length, ℤ, pos, negsuc, ◌+ℤ◌, Some, None, Option, refl, ap, ◌∙◌, arith, length-set}
 use Rattle.std.proofs.lemmas.List.{length-append}
 use Rattle.std.proofs.lemmas.Bool.{ltb-true}
 use Rattle.labels.specs.Kind.{Kind}
-use Rattle.rules.specs.Tables.{Table}
+use Rattle.rules.specs.Tables.{Table, request}
 use Rattle.rules.specs.declared.Opcode.{Opcode}
 use Rattle.rules.specs.declared.Request.{Request}
 use Rattle.rules.specs.declared.Verdict.{Verdict}
@@ -19,7 +19,7 @@ use Rattle.machine.specs.declared.parts.Entry.TheVariants.{Frame}
 use Rattle.machine.specs.declared.parts.Operation.{Operation}
 use Rattle.machine.specs.declared.parts.Operation.TheVariants.{Push, Pop, Noop, Add, Sub, Less, Load, Store, Jump, Bnz, Call, Return, Output, Halt}
 use Rattle.machine.proofs.Lists.{begins_refl, begins_append, begins_trans}
-use Rattle.machine.proofs.Flows.{On, forbids, allows, request}
+use Rattle.machine.proofs.Flows.{On, forbids, allows}
 use Rattle.machine.proofs.Outcomes.{AtStops, provided_any, taking_any, taking_all_any, nearest_frame_any, at_place_any, ruled_any, halted_any, step_any}
 
 module _ {L : Type 0} where

@@ -1,4 +1,4 @@
--- The commands that an observer at o sees. Assumes nothing.
+-- The commands that an observer at o sees.
 use Rattle.std.proofs.Common.{◌≡◌, Bool, true, false, cond, List, [], ◌∷◌, ◌++◌, sym, refl, ap, ◌∙◌, subst, ap₂, inl, inr, append-nil}
 use Rattle.labels.specs.Kind.{Kind}
 use Rattle.machine.specs.Lists.{Begins, ends, goes_on}

@@ -1,21 +1,22 @@
--- What an enter changes, and that a refused call changes nothing. Assumes nothing.
+-- What an enter changes, and that a refused call changes nothing.
 use Rattle.std.proofs.Common.{◌≡◌, ℕ, zero, suc, Bool, true, cond, List, [], ◌∷◌, set, Some, None, Option, sym, refl, ap, ◌∙◌, subst}
 use Rattle.labels.specs.Kind.{Kind}
+use Rattle.rules.specs.Tables.{Table}
 use Rattle.machine.specs.Laws.{RefusedChangesNothing, EnteredIsShown}
-use Rattle.machine.specs.Stations.{Station, idle, running, shut, Call, enter, look, start, go, next_command, Answer, granted, shows, took, found, refused, fitting, memory_of, misfit, entered, looked, reply, effect}
+use Rattle.machine.specs.Calls.{LentCall, misfit}
+use Rattle.machine.specs.Stations.{Station, idle, running, shut, Answer, granted, shows, took, found, refused, fitting, memory_of, entered, looked, reply, effect}
 use Rattle.machine.specs.Steps.{Setup, Kept, element}
 use Rattle.machine.specs.declared.answers.Part.{Part}
 use Rattle.machine.specs.declared.answers.Refusal.{Refusal}
 use Rattle.machine.specs.declared.answers.Refusal.TheVariants.{Length, Cell, Clearance}
+use Rattle.machine.specs.declared.calls.Call.{Call}
+use Rattle.machine.specs.declared.calls.Call.TheVariants.{Enter, Start, Go}
 use Rattle.machine.specs.declared.parts.Labelled.{Labelled}
 
 module _ {L : Type 0} where
   abbrev Refuses : Answer L → Type 0
-  Refuses granted = ⊥
-  Refuses (shows v) = ⊥
-  Refuses (took n) = ⊥
-  Refuses (found place) = ⊥
   Refuses (refused why) = Unit {0}
+  Refuses given = ⊥
 
   refuses : {x : Answer L} {why : Refusal} → x ≡ refused why → Refuses x
   refuses e = subst Refuses (sym e) tt
@@ -28,31 +29,26 @@ module _ {L : Type 0} where
   outside (x ∷ m) (suc cell) v h = ap (λ r. x ∷ r) (outside m cell v h)
 
 module _ {L : Type 0} (kind : Kind L) where
-  refused_effect : (setup : Setup L) (st : Station L) (call : Call L) → Refuses (reply kind setup st call)
-      → effect kind setup st call ≡ st
-  refused_effect setup (idle kept) (enter len cell v) h = ap (λ m. idle (record { memory = m; commands = kept.commands })) (outside kept.memory cell v h)
-  refused_effect setup (running s) (enter len cell v) h = refl
-  refused_effect setup (shut stop place kept) (enter len cell v) h = refl
-  refused_effect setup st (look len cell clearance) h = refl
-  refused_effect setup st start h = absurd h
-  refused_effect setup st (go lens table fuel) h = absurd h
-  refused_effect setup st (next_command len from clearance) h = refl
+  refused_effect : (setup : Setup L) (table : Table L) (st : Station L) (call : Call L) → Refuses (reply kind setup table st call)
+      → effect kind setup table st call ≡ st
+  refused_effect setup table (idle kept) (Enter cell v) h =
+      ap (λ m. idle (record { memory = m; commands = kept.commands })) (outside kept.memory cell v h)
+  refused_effect setup table st Start h = absurd h
+  refused_effect setup table st (Go fuel) h = absurd h
+  refused_effect setup table st call h = refl
 
   pub refused_changes_nothing : RefusedChangesNothing kind
-  refused_changes_nothing setup st call why e = fits (misfit setup.sizes call) (refuses e)
+  refused_changes_nothing setup st made why e = fits (misfit setup.sizes made.call made.lens) (refuses e)
     where
-      fits : (x : Option Part) → Refuses (fitting x (λ part. refused (Length part)) (reply kind setup st call))
-          → fitting x (λ _. st) (effect kind setup st call) ≡ st
-      fits None h = refused_effect setup st call h
+      fits : (x : Option Part) → Refuses (fitting x (λ part. refused (Length part)) (reply kind setup made.table st made.call))
+          → fitting x (λ _. st) (effect kind setup made.table st made.call) ≡ st
+      fits None h = refused_effect setup made.table st made.call h
       fits (Some part) h = refl
 
 module _ {L : Type 0} where
   abbrev Grants : Answer L → Type 0
   Grants granted = Unit {0}
-  Grants (shows v) = ⊥
-  Grants (took n) = ⊥
-  Grants (found place) = ⊥
-  Grants (refused why) = ⊥
+  Grants given = ⊥
 
   -- a cell that was written holds what was written, and the others what they held
   module _ (then : Labelled L → Answer L) where
@@ -90,7 +86,8 @@ module _ {L : Type 0} (kind : Kind L) where
 
   pub entered_is_shown : EnteredIsShown kind
   entered_is_shown = record {
-    there = λ setup kept len cell v clearance e low.
-        shown_there (misfit setup.sizes (enter len cell v)) kept cell v clearance (subst Grants (sym e) tt) low;
-    elsewhere = λ setup st len cell other v clearance h. shown_elsewhere (misfit setup.sizes (enter len cell v)) st cell other v clearance h;
+    there = λ setup kept lens table cell v clearance e low.
+        shown_there (misfit setup.sizes (Enter cell v) lens) kept cell v clearance (subst Grants (sym e) tt) low;
+    elsewhere = λ setup st lens table cell other v clearance h.
+        shown_elsewhere (misfit setup.sizes (Enter cell v) lens) st cell other v clearance h;
   }

@@ -1,10 +1,12 @@
--- The question for the next command finds the first one from the place on that is at or below the clearance. Assumes nothing.
+-- The question for the next command finds the first one from the place on that is at or below the clearance.
 use Rattle.std.proofs.Common.{◌≡◌, ℕ, zero, suc, ◌+◌, ◌<◌, ◌≤◌, Bool, true, false, cond, List, [], ◌∷◌, drop, Some, None, Option, refl, subst, arith}
 use Rattle.labels.specs.Kind.{Kind}
 use Rattle.machine.specs.Laws.{command_at, First, NextIsFirst}
-use Rattle.machine.specs.Stations.{Answer, granted, shows, took, found, refused, next_command, fitting, commands_of, misfit, first_below, reply}
+use Rattle.machine.specs.Calls.{misfit}
+use Rattle.machine.specs.Stations.{Answer, granted, shows, took, found, refused, fitting, commands_of, first_below, reply}
 use Rattle.machine.specs.declared.answers.Part.{Part}
 use Rattle.machine.specs.declared.answers.Refusal.TheVariants.{Length}
+use Rattle.machine.specs.declared.calls.Call.TheVariants.{NextCommand}
 use Rattle.machine.specs.declared.parts.Labelled.{Labelled}
 
 module _ {L : Type 0} (kind : Kind L) (clearance : L) where
@@ -64,14 +66,14 @@ module _ {L : Type 0} (kind : Kind L) (clearance : L) where
       subst (λ (n : ℕ). First kind xs from clearance (Some n)) at (record { from_on = h; there = (v, c, low); none_before = before })
 
 pub next_is_first : {L : Type 0} (kind : Kind L) → NextIsFirst kind
-next_is_first {L} kind setup st len from clearance next e =
-    subst (λ (x : Answer L). Finds x) e (fits (misfit setup.sizes (next_command len from clearance)))
+next_is_first {L} kind setup st lens table from clearance next e =
+    subst (λ (x : Answer L). Finds x) e (fits (misfit setup.sizes (NextCommand from clearance) lens))
   where
     -- what an answer found, if it found anything, is the first
     Finds : Answer L → Type 0
-    Finds x = elim x as (λ _. Type 0) [ granted ↦ Unit {0} | shows v ↦ Unit {0} | took n ↦ Unit {0} | found y ↦ First kind (commands_of st) from clearance y | refused why ↦ Unit {0} ]
+    Finds x = elim x as (λ _. Type 0) [ found y ↦ First kind (commands_of st) from clearance y | _ ↦ Unit {0} ]
 
     fits : (x : Option Part)
-        → Finds (fitting x (λ part. refused (Length part)) (reply kind setup st (next_command len from clearance)))
+        → Finds (fitting x (λ part. refused (Length part)) (reply kind setup table st (NextCommand from clearance)))
     fits None = first kind clearance (searched kind clearance (commands_of st) from 0 from (omega arith))
     fits (Some part) = tt

@@ -1,15 +1,11 @@
--- What the rows of a table must do with labels so that an observer at o learns nothing hidden, and that the published rows do it. Assumes nothing.
+-- What the rows of a table must do with labels so that an observer at o learns nothing hidden, and that the published rows do it.
 use Rattle.std.proofs.Common.{◌≡◌, Bool, true, false, cond, None, Option, refl, inl}
 use Rattle.labels.specs.Kind.{Kind, Lawful}
-use Rattle.rules.specs.Tables.{Table, verdict, published}
+use Rattle.rules.specs.Tables.{Table, request, verdict, published}
 use Rattle.rules.specs.declared.Opcode.{Opcode}
 use Rattle.rules.specs.declared.Opcode.TheVariants.{Push, Pop, Noop, Add, Sub, Less, Load, Store, Jump, Bnz, Call, Return, Output}
-use Rattle.rules.specs.declared.Request.{Request}
 use Rattle.rules.specs.declared.Verdict.{Verdict}
 use Rattle.machine.proofs.Hiding.{Hidden, Covers, AlikeLabels, upward, join_left, join_right, join_alike}
-
-abbrev pub request : {L : Type 0} → Opcode → L → L → L → L → Request L
-request op p a b c = record { op = op; pc = p; a = a; b = b; c = c }
 
 -- what holds of the labels N and R of a verdict, if there is one
 pub data On {L : Type 0} (Q : L → L → Type 0) : Option (Verdict L) → Type 0 where

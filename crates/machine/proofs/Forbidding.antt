@@ -1,4 +1,4 @@
--- Where a table forbids everything no operation is done. Assumes nothing.
+-- Where a table forbids everything no operation is done.
 use Rattle.std.proofs.Common.{◌≡◌, ℕ, zero, suc, None, refl}
 use Rattle.labels.specs.Kind.{Kind}
 use Rattle.machine.specs.Laws.{ForbiddenDoesNothing}

@@ -1,4 +1,4 @@
--- A go and its fuel: how many steps it takes, and that a go and then another are one go with the fuel of both. Assumes nothing.
+-- A go and its fuel: how many steps it takes, and that a go and then another are one go with the fuel of both.
 use Rattle.std.proofs.Common.{◌≡◌, ℕ, zero, suc, ◌+◌, ◌≤◌, Bool, true, false, cond, List, [], ◌∷◌, ℤ, pos, negsuc, refl, ap, subst, arith}
 use Rattle.labels.specs.Kind.{Kind}
 use Rattle.rules.specs.Tables.{Table}
@@ -91,23 +91,23 @@ module _ {L : Type 0} (kind : Kind L) (table : Table L) (setup : Setup L) where
   steps_spent zero s = from (step_comes_to kind table setup 0 s)
     where
       from : {x : Outcome L} → ComesTo table setup 0 s x → Spent 0 (settled s x (after_first 0))
-      from to_finish = record { at_most = omega arith; all = λ r. absurd r }
+      from to_finish = record { at_most = omega arith; all = λ r. cc r }
       from (to_later e) = record { at_most = omega arith; all = λ r. refl }
-      from to_stop = record { at_most = omega arith; all = λ r. absurd r }
+      from to_stop = record { at_most = omega arith; all = λ r. cc r }
       from (to_done e k) = absurd (omega arith)
   steps_spent (suc fuel) s = from (steps_spent fuel) (step_comes_to kind table setup (suc fuel) s)
     where
       from : ((s : Round L) → Spent fuel (run_steps kind setup table fuel s)) → {x : Outcome L}
           → ComesTo table setup (suc fuel) s x → Spent (suc fuel) (settled s x (run_steps kind setup table fuel))
-      from rest to_finish = record { at_most = omega arith; all = λ r. absurd r }
+      from rest to_finish = record { at_most = omega arith; all = λ r. cc r }
       from rest (to_later e) = absurd (omega arith)
-      from rest to_stop = record { at_most = omega arith; all = λ r. absurd r }
+      from rest to_stop = record { at_most = omega arith; all = λ r. cc r }
       from rest (to_done {s'} e k) = record { at_most = omega (arith, (rest s').at_most); all = λ r. ap suc ((rest s').all r) }
 
   gone_spent : (fuel : ℕ) (st : Station L) → Spent fuel (gone kind setup table fuel st)
-  gone_spent fuel (idle kept) = record { at_most = omega arith; all = λ r. absurd r }
+  gone_spent fuel (idle kept) = record { at_most = omega arith; all = λ r. cc r }
   gone_spent fuel (running s) = steps_spent fuel s
-  gone_spent fuel (shut stop place kept) = record { at_most = omega arith; all = λ r. absurd r }
+  gone_spent fuel (shut stop place kept) = record { at_most = omega arith; all = λ r. cc r }
 
 pub fuel_spent : {L : Type 0} (kind : Kind L) → FuelSpent kind
 fuel_spent kind = record {

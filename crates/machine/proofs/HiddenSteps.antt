@@ -1,4 +1,4 @@
--- A step at a hidden place shows nothing: it stops, waits for fuel, stays hidden, or returns to the topmost visible frame. Assumes nothing.
+-- A step at a hidden place shows nothing: it stops, waits for fuel, stays hidden, or returns to the topmost visible frame.
 use Rattle.std.proofs.Common.{◌≡◌, ℕ, Bool, true, false, cond, ◌⊎◌, List, [], ◌∷◌, ℤ, pos, ◌+ℤ◌, sym, refl, ap, ◌∙◌, subst, subst₂, inl, inr}
 use Rattle.labels.specs.Kind.{Kind, Lawful}
 use Rattle.rules.specs.Tables.{Table}

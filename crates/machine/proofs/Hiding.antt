@@ -1,4 +1,4 @@
--- Labels that an observer at o may know, and labels that are hidden from him. Assumes nothing.
+-- Labels that an observer at o may know, and labels that are hidden from him.
 use Rattle.std.proofs.Common.{◌≡◌, true, false, ◌⊎◌, sym, refl, ◌∙◌, ap₂, inl, inr, true≢false}
 use Rattle.labels.specs.Kind.{Kind, Lawful}
 

@@ -1,9 +1,10 @@
--- What lasts over any calls: commands, the length of the memory, and a shut station. Assumes nothing.
+-- What lasts over any calls: commands, the length of the memory, and a shut station.
 use Rattle.std.proofs.Common.{ℕ, List, sym, ◌∙◌, length-set}
 use Rattle.labels.specs.Kind.{Kind}
 use Rattle.rules.specs.Tables.{Table}
+use Rattle.machine.specs.Calls.{LentCall}
 use Rattle.machine.specs.Laws.{CommandsGrow, MemoryKeepsLength, ShutForGood}
-use Rattle.machine.specs.Stations.{Station, shut, Call, kept_by, after_all}
+use Rattle.machine.specs.Stations.{Station, shut, kept_by, after_all}
 use Rattle.machine.specs.Steps.{Setup, Kept, Round, Outcome}
 use Rattle.machine.proofs.Changes.{Follows, follows_refl, follows_trans, ComesTo, to_finish, to_later, to_stop, to_done, step_comes_to}
 use Rattle.machine.proofs.Lists.{begins_refl}
@@ -35,7 +36,7 @@ module _ {L : Type 0} (kind : Kind L) (setup : Setup L) where
   pub run_lasts : (st : Station L) (moves : List (Move L)) → After (kept_by st) (run kind setup st moves)
   run_lasts st moves = run_keeps kind setup (lasts (kept_by st)) st moves (follows_refl (kept_by st))
 
-  calls_last : (st : Station L) (calls : List (Call L)) → After (kept_by st) (after_all kind setup st calls)
+  calls_last : (st : Station L) (calls : List (LentCall L)) → After (kept_by st) (after_all kind setup st calls)
   calls_last st calls = calls_keep kind setup (lasts (kept_by st)) st calls (follows_refl (kept_by st))
 
 module _ {L : Type 0} (kind : Kind L) where

@@ -1,4 +1,4 @@
--- Lists related element by element, and beginnings of lists. Assumes nothing.
+-- Lists related element by element, and beginnings of lists.
 use Rattle.std.proofs.Common.{◌≡◌, ℕ, zero, suc, List, [], ◌∷◌, ◌++◌, length, set, ℤ, pos, negsuc, refl, ap, ◌∙◌, subst, inl, inr}
 use Rattle.machine.specs.Lists.{Each, none, more, Begins, ends, goes_on, OneBegins}
 use Rattle.machine.specs.Steps.{set_place}

@@ -1,4 +1,4 @@
--- What holds of every outcome of a step: it holds of the stops, and of what follows from each thing that the step takes. Assumes nothing.
+-- What holds of every outcome of a step: it holds of the stops, and of what follows from each thing that the step takes.
 use Rattle.std.proofs.Common.{◌≡◌, ℕ, zero, suc, Bool, true, false, cond, List, [], ◌∷◌, set, ℤ, pos, negsuc, Option, refl, ap, ◌∙◌}
 use Rattle.labels.specs.Kind.{Kind}
 use Rattle.rules.specs.Tables.{Table}

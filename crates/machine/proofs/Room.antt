@@ -1,4 +1,4 @@
--- From the making on, the stack and the log hold no more than their sizes. Assumes nothing.
+-- From the making on, the stack and the log hold no more than their sizes.
 use Rattle.std.proofs.Common.{ℕ, arith}
 use Rattle.labels.specs.Kind.{Kind}
 use Rattle.rules.specs.Tables.{Table}

@@ -1,4 +1,4 @@
--- Two stations side by side that an observer at o cannot tell apart, and how a step of each fits. Assumes nothing.
+-- Two stations side by side that an observer at o cannot tell apart, and how a step of each fits.
 use Rattle.std.proofs.Common.{◌≡◌, ◌⊎◌, sym, refl, ◌∙◌, subst, inl, inr}
 use Rattle.labels.specs.Kind.{Kind}
 use Rattle.machine.specs.Observer.{Alike}

@@ -1,25 +1,26 @@
--- Two stations go side by side through their moves, and whichever can goes ahead. Assumes nothing.
+-- Two stations go side by side through their moves, and whichever can goes ahead.
 use Rattle.std.proofs.Common.{◌≡◌, ℕ, suc, List, [], ◌∷◌, length, ℤ, sym, refl, subst, subst₂, inl, arith}
 use mathlib.Core.Path.{fun_ext}
 use Rattle.labels.specs.Kind.{Kind, Lawful}
-use Rattle.rules.specs.Tables.{Table, Same, published}
+use Rattle.rules.specs.Tables.{Table, Same}
 use Rattle.machine.specs.Lists.{Each, none, Begins, OneBegins}
-use Rattle.machine.specs.Observer.{struck, AllPublished, AlikeOperation, AlikeCall, same_start, alike_enter, visible}
-use Rattle.machine.specs.Stations.{Station, idle, running, shut, Call, memory_of, commands_of, Idle, after_all, Allowed}
+use Rattle.machine.specs.Calls.{Input, enters, starts, LentCall}
+use Rattle.machine.specs.Observer.{struck, AllUnder, AlikeOperation, AlikeInput, same_start, alike_enter, visible}
+use Rattle.machine.specs.Stations.{Station, idle, running, shut, memory_of, commands_of, Idle, after_all, Allowed}
 use Rattle.machine.specs.Steps.{Setup, Kept, Round, Outcome, step}
 use Rattle.machine.specs.declared.answers.Stop.{Stop}
 use Rattle.machine.specs.declared.parts.Labelled.{Labelled}
 use Rattle.machine.proofs.Alikes.{Memories, memories_sym, alike_sym}
 use Rattle.machine.proofs.Commands.{Shown, visible_begins}
-use Rattle.machine.proofs.Flows.{published_secure}
+use Rattle.machine.proofs.Flows.{Secure}
 use Rattle.machine.proofs.HiddenSteps.{hidden_match, hidden_step}
 use Rattle.machine.proofs.Lasting.{moved_lasts, run_lasts}
 use Rattle.machine.proofs.Lists.{each_set, begins_equal, begins_trans, one_begins_sym, one_begins_tail}
-use Rattle.machine.proofs.Moves.{Input, enters, starts, Move, input, turn, call_of, inputs_of, taken_in, run, run_shut, Ready, flat, run_flat, inputs_flat, ready_flat}
+use Rattle.machine.proofs.Moves.{Move, input, turn, inputs_of, taken_in, run, run_shut, Ready, flat, run_flat, inputs_flat, ready_flat}
 use Rattle.machine.proofs.SideBySide.{settle, SameSight, Alongside, both_visible, both_hidden, alongside, Fit, fit_idle, fit_running, fit_sym, Matches, left_stops, right_stops, left_alone, right_alone, together}
 use Rattle.machine.proofs.VisibleSteps.{visible_steps}
 
-module _ {L : Type 0} {kind : Kind L} (laws : Lawful kind) (o : L) where
+module _ {L : Type 0} {kind : Kind L} (laws : Lawful kind) (o : L) (rows : Table L) (secure : Secure kind o rows) where
   -- What is to be shown of two stations at the end, after so many inputs each.
   pub record SeenAlike (n₁ n₂ : ℕ) (st₁ st₂ : Station L) : Type 0 where
     pub of_commands : OneBegins ◌≡◌ (visible kind o (commands_of st₁)) (visible kind o (commands_of st₂))
@@ -37,12 +38,12 @@ module _ {L : Type 0} {kind : Kind L} (laws : Lawful kind) (o : L) where
 
   -- Stations that fit, with moves that are ready and alike inputs, end so.
   abbrev Claim : Setup L → Setup L → List (Move L) → List (Move L) → Type 0
-  Claim S₁ S₂ ms₁ ms₂ = (st₁ st₂ : Station L) → Fit kind o st₁ st₂ → Ready kind S₁ st₁ ms₁ → Ready kind S₂ st₂ ms₂
-      → OneBegins (AlikeCall kind o) (inputs_of ms₁) (inputs_of ms₂) → Ends S₁ S₂ ms₁ ms₂ st₁ st₂
+  Claim S₁ S₂ ms₁ ms₂ = (st₁ st₂ : Station L) → Fit kind o st₁ st₂ → Ready kind S₁ rows st₁ ms₁ → Ready kind S₂ rows st₂ ms₂
+      → OneBegins (AlikeInput kind o) (inputs_of ms₁) (inputs_of ms₂) → Ends S₁ S₂ ms₁ ms₂ st₁ st₂
 
-  call_sym : (a b : Call L) → AlikeCall kind o a b → AlikeCall kind o b a
-  call_sym a b same_start = same_start
-  call_sym a b (alike_enter h) = alike_enter (alike_sym kind o _ _ h)
+  input_sym : (a b : Input L) → AlikeInput kind o a b → AlikeInput kind o b a
+  input_sym a b same_start = same_start
+  input_sym a b (alike_enter h) = alike_enter (alike_sym kind o _ _ h)
 
   fit_shown : {st₁ st₂ : Station L} → Fit kind o st₁ st₂ → Shown kind o (commands_of st₁) (commands_of st₂)
   fit_shown (fit_idle sight) = sight.commands
@@ -62,7 +63,7 @@ module _ {L : Type 0} {kind : Kind L} (laws : Lawful kind) (o : L) where
         → SeenAlike n₁ n₂ (run kind S₁ (shut stop place kept) ms₁) (run kind S₂ st₂ ms₂)
     shuts {n₁} {n₂} stop place kept st₂ ms₁ ms₂ h =
         subst (λ (st : Station L). SeenAlike n₁ n₂ st (run kind S₂ st₂ ms₂)) (sym (run_shut kind S₁ stop place kept ms₁))
-        (record { of_commands = inl (ahead kept.commands st₂ ms₂ h); of_memories = λ _ i _. absurd i })
+        (record { of_commands = inl (ahead kept.commands st₂ ms₂ h); of_memories = λ _ i _. cc i })
 
     -- an idle station without inputs stays as it is
     run_idle : (kept : Kept L) (ms : List (Move L)) → 0 ≡ length (inputs_of ms) → run kind S₂ (idle kept) ms ≡ idle kept
@@ -80,28 +81,25 @@ module _ {L : Type 0} {kind : Kind L} (laws : Lawful kind) (o : L) where
         memories : {st₁ st₂ : Station L} → Fit kind o st₁ st₂ → 0 ≡ length (inputs_of ms₂) → Idle st₁ → Idle (run kind S₂ st₂ ms₂)
             → Memories kind o (memory_of st₁) (memory_of (run kind S₂ st₂ ms₂))
         memories (fit_idle {k} {l} sight) z i j = subst (λ (st : Station L). Memories kind o k.memory (memory_of st)) (sym (run_idle l ms₂ z)) sight.memories
-        memories (fit_running a) z i j = absurd i
+        memories (fit_running a) z i j = cc i
 
-  -- a step of each, under policies true to the published rows
+  -- a step of each, under policies true to the rows
   steps_match : (S₁ S₂ : Setup L) → Each (AlikeOperation kind o) S₁.program S₂.program → (t u : Table L)
-      → Same (published kind) t → Same (published kind) u
+      → Same rows t → Same rows u
       → (f g : ℕ) {r s : Round L} → Alongside kind o r s → Matches kind o r s (step kind t S₁ f r) (step kind u S₂ g s)
   steps_match S₁ S₂ programs t u same₁ same₂ f g {r} {s} beside =
-      subst₂ (λ (t u : Table L). Matches kind o r s (step kind t S₁ f r) (step kind u S₂ g s)) (fun_ext same₁) (fun_ext same₂) (published_match beside)
+      subst₂ (λ (t u : Table L). Matches kind o r s (step kind t S₁ f r) (step kind u S₂ g s)) (fun_ext same₁) (fun_ext same₂) (rows_match beside)
     where
-      published_match : Alongside kind o r s
-          → Matches kind o r s (step kind (published kind) S₁ f r) (step kind (published kind) S₂ g s)
-      published_match (both_visible v e stacks sight) = visible_steps kind o (published kind) (published_secure laws o) S₁ S₂ programs f g r s v e stacks sight
-      published_match (both_hidden h k stacks sight) = hidden_match kind o h k stacks sight
-          (hidden_step laws o (published kind) (published_secure laws o) S₁ r h f) (hidden_step laws o (published kind) (published_secure laws o) S₂ s k g)
+      rows_match : Alongside kind o r s → Matches kind o r s (step kind rows S₁ f r) (step kind rows S₂ g s)
+      rows_match (both_visible v e stacks sight) = visible_steps kind o rows secure S₁ S₂ programs f g r s v e stacks sight
+      rows_match (both_hidden h k stacks sight) = hidden_match kind o h k stacks sight
+          (hidden_step laws o rows secure S₁ r h f) (hidden_step laws o rows secure S₂ s k g)
 
   -- an input of each
-  inputs_fit : (a b : Input L) {k l : Kept L} → AlikeCall kind o (call_of a) (call_of b) → SameSight kind o k l
+  inputs_fit : (a b : Input L) {k l : Kept L} → AlikeInput kind o a b → SameSight kind o k l
       → Fit kind o (taken_in kind (idle k) a) (taken_in kind (idle l) b)
-  inputs_fit starts starts same_start sight = fit_running (alongside kind o (inl refl) none sight)
-  inputs_fit (enters len cell v) starts alike sight = elim alike [ ]
-  inputs_fit starts (enters len cell v) alike sight = elim alike [ ]
-  inputs_fit (enters len cell v) (enters len' cell' w) (alike_enter h) sight = fit_idle (record { memories = each_set cell sight.memories h; commands = sight.commands })
+  inputs_fit a b same_start sight = fit_running (alongside kind o (inl refl) none sight)
+  inputs_fit a b (alike_enter {cell} h) sight = fit_idle (record { memories = each_set cell sight.memories h; commands = sight.commands })
 
   -- what follows from how a step of each of two rounds matches
   module _ (S₁ S₂ : Setup L) (ms₁ ms₂ : List (Move L)) {r s : Round L} (beside : Alongside kind o r s) where
@@ -130,10 +128,10 @@ module _ {L : Type 0} {kind : Kind L} (laws : Lawful kind) (o : L) where
     forward (turn t f) b ms₁ ms₂ one two both st₁ st₂ (fit_idle sight) ready₁ ready₂ alike = one _ _ (fit_idle sight) ready₁.1 ready₂ alike
     forward (input a) (turn u g) ms₁ ms₂ one two both st₁ st₂ (fit_idle sight) ready₁ ready₂ alike = two _ _ (fit_idle sight) ready₁ ready₂.1 alike
     forward (input a) (input b) ms₁ ms₂ one two both st₁ st₂ (fit_idle sight) ready₁ ready₂ alike =
-        let firsts = one_begins_tail call_sym alike in
+        let firsts = one_begins_tail input_sym alike in
         seen_suc (both _ _ (inputs_fit a b firsts.0 sight) ready₁.1 ready₂.1 firsts.1)
-    forward (input a) b ms₁ ms₂ one two both st₁ st₂ (fit_running beside) ready₁ ready₂ alike = absurd ready₁.0
-    forward (turn t f) (input b) ms₁ ms₂ one two both st₁ st₂ (fit_running beside) ready₁ ready₂ alike = absurd ready₂.0
+    forward (input a) b ms₁ ms₂ one two both st₁ st₂ (fit_running beside) ready₁ ready₂ alike = cc ready₁.0
+    forward (turn t f) (input b) ms₁ ms₂ one two both st₁ st₂ (fit_running beside) ready₁ ready₂ alike = cc ready₂.0
     forward (turn t f) (turn u g) ms₁ ms₂ one two both st₁ st₂ (fit_running {r} {s} beside) ready₁ ready₂ alike =
         joined S₁ S₂ ms₁ ms₂ beside (steps_match S₁ S₂ programs t u ready₁.0 ready₂.0 f g beside)
         (moved_lasts kind S₁ (running r) (turn t f)).grows (moved_lasts kind S₂ (running s) (turn u g)).grows
@@ -150,15 +148,15 @@ module _ {L : Type 0} {kind : Kind L} (laws : Lawful kind) (o : L) where
     side_by_side (a ∷ ms₁) ms₂ = after_one a ms₁ (side_by_side ms₁) ms₂
 
     -- the calls themselves
-    pub calls_end : (st₁ st₂ : Station L) (calls₁ calls₂ : List (Call L)) → Fit kind o st₁ st₂
-        → Allowed kind S₁ st₁ calls₁ × AllPublished kind calls₁ → Allowed kind S₂ st₂ calls₂ × AllPublished kind calls₂
-        → OneBegins (AlikeCall kind o) (struck S₁.sizes calls₁) (struck S₂.sizes calls₂)
+    pub calls_end : (st₁ st₂ : Station L) (calls₁ calls₂ : List (LentCall L)) → Fit kind o st₁ st₂
+        → Allowed kind S₁ st₁ calls₁ × AllUnder kind rows calls₁ → Allowed kind S₂ st₂ calls₂ × AllUnder kind rows calls₂
+        → OneBegins (AlikeInput kind o) (struck S₁.sizes calls₁) (struck S₂.sizes calls₂)
         → SeenAlike (length (struck S₁.sizes calls₁)) (length (struck S₂.sizes calls₂)) (after_all kind S₁ st₁ calls₁) (after_all kind S₂ st₂ calls₂)
     calls_end st₁ st₂ calls₁ calls₂ fit proper₁ proper₂ alike =
         let e₁ = inputs_flat kind S₁ calls₁ in
         let e₂ = inputs_flat kind S₂ calls₂ in
         let ends = side_by_side (flat kind S₁ calls₁) (flat kind S₂ calls₂) st₁ st₂ fit
-        (ready_flat kind S₁ st₁ calls₁ proper₁.0 proper₁.1) (ready_flat kind S₂ st₂ calls₂ proper₂.0 proper₂.1)
-        (subst₂ (OneBegins (AlikeCall kind o)) (sym e₁) (sym e₂) alike) in
-        subst₂ (λ (xs ys : List (Call L)). SeenAlike (length xs) (length ys) (after_all kind S₁ st₁ calls₁) (after_all kind S₂ st₂ calls₂)) e₁ e₂
+        (ready_flat kind S₁ rows st₁ calls₁ proper₁.0 proper₁.1) (ready_flat kind S₂ rows st₂ calls₂ proper₂.0 proper₂.1)
+        (subst₂ (OneBegins (AlikeInput kind o)) (sym e₁) (sym e₂) alike) in
+        subst₂ (λ (xs ys : List (Input L)). SeenAlike (length xs) (length ys) (after_all kind S₁ st₁ calls₁) (after_all kind S₂ st₂ calls₂)) e₁ e₂
         (subst₂ (SeenAlike _ _) (run_flat kind S₁ st₁ calls₁) (run_flat kind S₂ st₂ calls₂) ends)

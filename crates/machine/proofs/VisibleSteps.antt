@@ -1,5 +1,5 @@
 -- Two rounds at one visible place, alike to the observer: after a step of each they are alike again, unless one stops or waits for fuel.
--- Assumes nothing.
+--
 use Rattle.std.proofs.Common.{◌≡◌, ℕ, zero, suc, Bool, true, false, cond, List, ℤ, pos, negsuc, ◌+ℤ◌, Option, sym, refl, ap, ◌∙◌, subst, inl, inr, ⊎_elim}
 use Rattle.labels.specs.Kind.{Kind}
 use Rattle.rules.specs.Tables.{Table}

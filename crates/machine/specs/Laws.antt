@@ -1,43 +1,45 @@
--- Laws of calls and of whole runs, whatever the tables. Assumes nothing.
+-- Laws of calls and of whole runs, whatever the tables.
 use Rattle.std.specs.Prelude.{◌≡◌, ℕ, ◌+◌, ◌<◌, ◌≤◌, true, false, List, length, ℤ, Some, None, Option, ◌≢◌}
 use Rattle.labels.specs.Kind.{Kind}
 use Rattle.rules.specs.Tables.{Table}
+use Rattle.machine.specs.Calls.{LentCall, lent}
 use Rattle.machine.specs.Lists.{Begins}
 use Rattle.machine.specs.Observer.{History, setup_of, end_of}
-use Rattle.machine.specs.Stations.{Station, idle, running, shut, Call, enter, look, next_command, granted, shows, found, refused, kept_by, memory_of, commands_of, Running, gone, answer, after, after_all}
+use Rattle.machine.specs.Stations.{Station, idle, running, shut, granted, shows, found, refused, kept_by, memory_of, commands_of, Running, gone, answer, after, after_all}
 use Rattle.machine.specs.Steps.{Setup, Kept, element}
 use Rattle.machine.specs.declared.answers.Refusal.{Refusal}
 use Rattle.machine.specs.declared.answers.Stop.{Stop}
+use Rattle.machine.specs.declared.calls.Call.TheVariants.{Enter, Look, NextCommand}
 use Rattle.machine.specs.declared.parts.Labelled.{Labelled}
 use Rattle.machine.specs.declared.parts.Sizes.{Sizes}
 
 module _ {L : Type 0} (kind : Kind L) where
   -- Commands are only added, whatever is called.
   abbrev pub CommandsGrow : Type 0
-  CommandsGrow = (setup : Setup L) (st : Station L) (calls : List (Call L))
+  CommandsGrow = (setup : Setup L) (st : Station L) (calls : List (LentCall L))
       → Begins ◌≡◌ (commands_of st) (commands_of (after_all kind setup st calls))
 
   -- The memory stays as long as it was made, whatever is called.
   abbrev pub MemoryKeepsLength : Type 0
-  MemoryKeepsLength = (setup : Setup L) (st : Station L) (calls : List (Call L))
+  MemoryKeepsLength = (setup : Setup L) (st : Station L) (calls : List (LentCall L))
       → length (memory_of (after_all kind setup st calls)) ≡ length (memory_of st)
 
   -- A shut station stays as it is, with its memory and commands, whatever is called.
   abbrev pub ShutForGood : Type 0
-  ShutForGood = (setup : Setup L) (stop : Stop) (place : ℤ) (kept : Kept L) (calls : List (Call L))
+  ShutForGood = (setup : Setup L) (stop : Stop) (place : ℤ) (kept : Kept L) (calls : List (LentCall L))
       → after_all kind setup (shut stop place kept) calls ≡ shut stop place kept
 
   -- Looks and questions for commands change nothing.
   pub record LookingChangesNothing : Type 0 where
-    pub looks : (setup : Setup L) (st : Station L) (len cell : ℕ) (clearance : L)
-        → after kind setup st (look len cell clearance) ≡ st
-    pub questions : (setup : Setup L) (st : Station L) (len from : ℕ) (clearance : L)
-        → after kind setup st (next_command len from clearance) ≡ st
+    pub looks : (setup : Setup L) (st : Station L) (lens : Sizes) (table : Table L) (cell : ℕ) (clearance : L)
+        → after kind setup st (lent (Look cell clearance) lens table) ≡ st
+    pub questions : (setup : Setup L) (st : Station L) (lens : Sizes) (table : Table L) (from : ℕ) (clearance : L)
+        → after kind setup st (lent (NextCommand from clearance) lens table) ≡ st
 
   -- A refused call changes nothing.
   abbrev pub RefusedChangesNothing : Type 0
-  RefusedChangesNothing = (setup : Setup L) (st : Station L) (call : Call L) (why : Refusal)
-      → answer kind setup st call ≡ refused why → after kind setup st call ≡ st
+  RefusedChangesNothing = (setup : Setup L) (st : Station L) (made : LentCall L) (why : Refusal)
+      → answer kind setup st made ≡ refused why → after kind setup st made ≡ st
 
   -- Under one table, a go of fuel f and then a go of fuel g leave what a go of fuel f + g leaves, and take its steps together.
   pub record GoesAddUp : Type 0 where
@@ -61,12 +63,14 @@ module _ {L : Type 0} (kind : Kind L) where
 
   -- What was entered is shown to whoever may know it, and every other cell is shown as before.
   pub record EnteredIsShown : Type 0 where
-    pub there : (setup : Setup L) (kept : Kept L) (len cell : ℕ) (v : Labelled L) (clearance : L)
-        → answer kind setup (idle kept) (enter len cell v) ≡ granted → kind.below v.label clearance ≡ true
-        → answer kind setup (after kind setup (idle kept) (enter len cell v)) (look len cell clearance) ≡ shows v
-    pub elsewhere : (setup : Setup L) (st : Station L) (len cell other : ℕ) (v : Labelled L) (clearance : L) → (other ≢ cell)
-        → answer kind setup (after kind setup st (enter len cell v)) (look len other clearance)
-        ≡ answer kind setup st (look len other clearance)
+    pub there : (setup : Setup L) (kept : Kept L) (lens : Sizes) (table : Table L) (cell : ℕ) (v : Labelled L) (clearance : L)
+        → answer kind setup (idle kept) (lent (Enter cell v) lens table) ≡ granted → kind.below v.label clearance ≡ true
+        → answer kind setup (after kind setup (idle kept) (lent (Enter cell v) lens table)) (lent (Look cell clearance) lens table)
+        ≡ shows v
+    pub elsewhere : (setup : Setup L) (st : Station L) (lens : Sizes) (table : Table L) (cell other : ℕ) (v : Labelled L)
+        (clearance : L) → (other ≢ cell)
+        → answer kind setup (after kind setup st (lent (Enter cell v) lens table)) (lent (Look other clearance) lens table)
+        ≡ answer kind setup st (lent (Look other clearance) lens table)
 
   -- the command at a place, if there is one
   abbrev pub command_at : List (Labelled L) → ℕ → Option (Labelled L)
@@ -85,8 +89,9 @@ module _ {L : Type 0} (kind : Kind L) where
 
   -- What the question for the next command finds is the first command from the place on at or below the clearance.
   abbrev pub NextIsFirst : Type 0
-  NextIsFirst = (setup : Setup L) (st : Station L) (len from : ℕ) (clearance : L) (next : Option ℕ)
-      → answer kind setup st (next_command len from clearance) ≡ found next → First (commands_of st) from clearance next
+  NextIsFirst = (setup : Setup L) (st : Station L) (lens : Sizes) (table : Table L) (from : ℕ) (clearance : L) (next : Option ℕ)
+      → answer kind setup st (lent (NextCommand from clearance) lens table) ≡ found next
+      → First (commands_of st) from clearance next
 
   -- the stack and the log hold no more than their sizes
   abbrev pub Within : Sizes → Station L → Type 0

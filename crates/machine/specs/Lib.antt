@@ -1,5 +1,6 @@
 pub mod Numbers
 pub mod Steps
+pub mod Calls
 pub mod Stations
 pub mod Lists
 pub mod Observer

@@ -1,4 +1,4 @@
--- Lists compared element by element. Assumes nothing.
+-- Lists compared element by element.
 use Rattle.std.specs.Prelude.{◌⊎◌, List, [], ◌∷◌}
 
 -- equally long, and related element by element

@@ -1,10 +1,12 @@
--- What an observer at a level has, and the promise to those whose numbers are hidden from him. Assumes nothing.
-use Rattle.std.specs.Prelude.{◌≡◌, ℕ, Bool, true, false, cond, ◌⊎◌, List, [], ◌∷◌, length}
+-- What an observer at a level has, and the promise to those whose numbers are hidden from him.
+use Rattle.std.specs.Prelude.{◌≡◌, ℕ, false, cond, ◌⊎◌, List, [], ◌∷◌, ◌++◌, length, true, IsTrue}
 use Rattle.labels.specs.Kind.{Kind}
-use Rattle.rules.specs.Tables.{Same, published}
+use Rattle.rules.specs.Tables.{Table, Same, published}
+use Rattle.machine.specs.Calls.{Input, enters, starts, LentCall, lent, facts, misfit}
 use Rattle.machine.specs.Lists.{Each, OneBegins}
-use Rattle.machine.specs.Stations.{Station, Call, enter, look, start, go, next_command, fitting, setup, made, misfit, commands_of, Idle, answer, after_all, Allowed}
-use Rattle.machine.specs.Steps.{Setup}
+use Rattle.machine.specs.Stations.{Station, fitting, made, commands_of, Idle, answer, after_all, Allowed}
+use Rattle.machine.specs.Steps.{Setup, setup}
+use Rattle.machine.specs.declared.calls.Call.TheVariants.{Look}
 use Rattle.machine.specs.declared.parts.Labelled.{Labelled}
 use Rattle.machine.specs.declared.parts.Operation.{Operation}
 use Rattle.machine.specs.declared.parts.Operation.TheVariants.{Push}
@@ -16,30 +18,22 @@ pub record History (L : Type 0) : Type 0 where
   pub memory : List (Labelled L)
   pub stack_size : ℕ
   pub log_size : ℕ
-  pub calls : List (Call L)
+  pub calls : List (LentCall L)
 
 module _ {L : Type 0} where
   abbrev pub setup_of : History L → Setup L
   setup_of h = setup h.program h.memory h.stack_size h.log_size
 
-  -- enters and starts
-  abbrev pub is_input : Call L → Bool
-  is_input (enter len cell v) = true
-  is_input (look len cell clearance) = false
-  is_input start = true
-  is_input (go lens table fuel) = false
-  is_input (next_command len from clearance) = false
+  -- what is left of a call where goes, looks, questions for commands and calls refused with 2 are struck out
+  abbrev pub left_of : Sizes → LentCall L → List (Input L)
+  left_of sizes made = fitting (misfit sizes made.call made.lens) (λ _. []) (facts made.call).inputs
 
-  -- whether a call is left when goes, looks, questions for commands and calls refused with 2 are struck out
-  abbrev pub is_left : Sizes → Call L → Bool
-  is_left sizes call = fitting (misfit sizes call) (λ _. false) (is_input call)
-
-  abbrev pub struck : Sizes → List (Call L) → List (Call L)
+  abbrev pub struck : Sizes → List (LentCall L) → List (Input L)
   struck sizes [] = []
-  struck sizes (call ∷ calls) = cond (is_left sizes call) (call ∷ struck sizes calls) (struck sizes calls)
+  struck sizes (made ∷ calls) = left_of sizes made ++ struck sizes calls
 
-  -- the calls that count when two histories are compared
-  abbrev pub inputs : History L → List (Call L)
+  -- the enters and starts that count when two histories are compared
+  abbrev pub inputs : History L → List (Input L)
   inputs h = struck (setup_of h).sizes h.calls
 
 module _ {L : Type 0} (kind : Kind L) where
@@ -49,22 +43,18 @@ module _ {L : Type 0} (kind : Kind L) where
   abbrev pub end_of : History L → Station L
   end_of h = after_all kind (setup_of h) (made h.memory) h.calls
 
-  -- A go under a policy that is true to the published rows. Such a policy answers as they do, whatever it holds and however it
+  -- A call that asks its policy asks one that is true to these rows. Such a policy answers as they do, whatever it holds and however it
   -- comes to its answers, so a table with these answers stands for it.
-  abbrev pub Published : Call L → Type 0
-  Published (enter len cell v) = Unit {0}
-  Published (look len cell clearance) = Unit {0}
-  Published start = Unit {0}
-  Published (go lens table fuel) = Same (published kind) table
-  Published (next_command len from clearance) = Unit {0}
+  abbrev pub Under : Table L → LentCall L → Type 0
+  Under rows made = IsTrue (facts made.call).asks → Same rows made.table
 
-  abbrev pub AllPublished : List (Call L) → Type 0
-  AllPublished [] = Unit {0}
-  AllPublished (call ∷ calls) = Published call × AllPublished calls
+  abbrev pub AllUnder : Table L → List (LentCall L) → Type 0
+  AllUnder rows [] = Unit {0}
+  AllUnder rows (made ∷ calls) = Under rows made × AllUnder rows calls
 
-  -- Each call was made in a state that takes it, and each go under a policy true to the published rows, the same or another.
-  abbrev pub Proper : History L → Type 0
-  Proper h = Allowed kind (setup_of h) (made h.memory) h.calls × AllPublished h.calls
+  -- Each call was made in a state that takes it, and each go under a policy true to these rows, the same or another.
+  abbrev pub Proper : Table L → History L → Type 0
+  Proper rows h = Allowed kind (setup_of h) (made h.memory) h.calls × AllUnder rows h.calls
 
   module _ (o : L) where
     -- Two labelled numbers are alike to an observer at o: they are the same, or neither label is at or below o.
@@ -77,9 +67,9 @@ module _ {L : Type 0} (kind : Kind L) where
       alike_push : {v w : Labelled L} → Alike v w → AlikeOperation (Push v) (Push w)
 
     -- Enters and starts are alike if they are the same, except that entered numbers need only be alike.
-    pub data AlikeCall : Call L → Call L → Type 0 where
-      same_start : AlikeCall start start
-      alike_enter : {len cell : ℕ} {v w : Labelled L} → Alike v w → AlikeCall (enter len cell v) (enter len cell w)
+    pub data AlikeInput : Input L → Input L → Type 0 where
+      same_start : AlikeInput starts starts
+      alike_enter : {cell : ℕ} {v w : Labelled L} → Alike v w → AlikeInput (enters cell v) (enters cell w)
 
     -- Stations are alike as made if their programs and memories are; stacks, logs and policies may differ.
     abbrev pub AlikeStations : History L → History L → Type 0
@@ -87,7 +77,7 @@ module _ {L : Type 0} (kind : Kind L) where
 
     -- Lists of calls are alike if, with what is struck out, one is a beginning of the other.
     abbrev pub AlikeCalls : History L → History L → Type 0
-    AlikeCalls one two = OneBegins AlikeCall (inputs one) (inputs two)
+    AlikeCalls one two = OneBegins AlikeInput (inputs one) (inputs two)
 
     -- the numbers at or below o
     abbrev pub visible : List (Labelled L) → List (Labelled L)
@@ -98,18 +88,25 @@ module _ {L : Type 0} (kind : Kind L) where
     abbrev pub SameCommands : History L → History L → Type 0
     SameCommands one two = OneBegins ◌≡◌ (visible (commands_of (end_of one))) (visible (commands_of (end_of two)))
 
-    -- Where equally many enters and starts are left and both stations are idle, every look into a station's own memory with a
-    -- clearance at or below o has the same answer on both.
+    -- Where equally many enters and starts are left and both stations are idle, every look into a station's own parts with a
+    -- clearance at or below o has the same answer on both. (A look asks no policy, so any table stands for one.)
     abbrev pub SameLooks : History L → History L → Type 0
     SameLooks one two =
         length (inputs one) ≡ length (inputs two) → Idle (end_of one) → Idle (end_of two)
-        → (cell : ℕ) (clearance : L) → below clearance o ≡ true
-        → answer kind (setup_of one) (end_of one) (look (length one.memory) cell clearance)
-        ≡ answer kind (setup_of two) (end_of two) (look (length two.memory) cell clearance)
+        → (cell : ℕ) (clearance : L) (table : Table L) → below clearance o ≡ true
+        → answer kind (setup_of one) (end_of one) (lent (Look cell clearance) (setup_of one).sizes table)
+        ≡ answer kind (setup_of two) (end_of two) (lent (Look cell clearance) (setup_of two).sizes table)
 
--- Noninterference: two stations that are alike to an observer when made, given lists of calls that are alike to him, show him
--- the same commands as far as both have come, and, after equally many enters and starts, the same cells when both rest.
-abbrev pub Noninterference : {L : Type 0} → Kind L → Type 0
-Noninterference {L} kind =
-    (o : L) (one two : History L) → Proper kind one → Proper kind two → AlikeStations kind o one two → AlikeCalls kind o one two
-    → SameCommands kind o one two × SameLooks kind o one two
+module _ {L : Type 0} (kind : Kind L) where
+  -- Noninterference where policies are true to these rows: two stations that are alike to an observer when made, given lists of calls
+  -- that are alike to him, show him the same commands as far as both have come, and, after equally many enters and starts, the same
+  -- cells when both rest.
+  abbrev pub NoninterferenceUnder : Table L → Type 0
+  NoninterferenceUnder rows =
+      (o : L) (one two : History L) → Proper kind rows one → Proper kind rows two
+      → AlikeStations kind o one two → AlikeCalls kind o one two
+      → SameCommands kind o one two × SameLooks kind o one two
+
+  -- Noninterference under the published rows.
+  abbrev pub Noninterference : Type 0
+  Noninterference = NoninterferenceUnder (published kind)

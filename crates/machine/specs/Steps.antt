@@ -1,11 +1,13 @@
--- One step of a running station, over any table. Assumes nothing.
-use Rattle.std.specs.Prelude.{ℕ, zero, suc, Bool, true, false, cond, List, [], ◌∷◌, ◌++◌, length, ℤ, pos, negsuc, ◌+ℤ◌, ◌-ℤ◌, Some, None, Option, int_lt, nat_lt, slice_set}
+-- One step of a running station, over any table.
+use Rattle.std.specs.Prelude.{ℕ, zero, suc, Bool, true, false, cond, List, [], ◌∷◌, ◌++◌, length, ℤ, pos, negsuc, ◌+ℤ◌, ◌-ℤ◌, Some, None, Ok, Err, Option, Result, int_lt, nat_lt, slice_set}
 use Rattle.std.specs.Int.{int_wrap, w32}
 use Rattle.labels.specs.Kind.{Kind}
-use Rattle.rules.specs.Tables.{Table}
+use Rattle.rules.specs.Tables.{Table, request}
 use Rattle.rules.specs.declared.Opcode.{Opcode}
 use Rattle.rules.specs.declared.Opcode.TheVariants as opcode
 use Rattle.rules.specs.declared.Verdict.{Verdict}
+use Rattle.machine.specs.declared.answers.End.{End}
+use Rattle.machine.specs.declared.answers.End.TheVariants.{Finished, OutOfFuel, Stopped}
 use Rattle.machine.specs.declared.answers.Stop.{Stop}
 use Rattle.machine.specs.declared.answers.Stop.TheVariants.{OutsideProgram, TooFewNumbers, StackFull, OutsideMemory, Forbidden, NoFrame, LogFull, HaltAboveBottom}
 use Rattle.machine.specs.declared.parts.Labelled.{Labelled}
@@ -38,11 +40,47 @@ pub record Round (L : Type 0) : Type 0 where
   pub stack : List (Entry L)
   pub kept : Kept L
 
--- What a step comes to: the round is finished, it runs on later for want of fuel, it is stopped, or an operation was done.
-pub data Outcome (L : Type 0) : Type 0 where
-  finished later : Outcome L
-  stopped : Stop → Outcome L
-  done : Round L → Outcome L
+-- What the four parts that are lent to a station hold.
+pub record Contents (L : Type 0) : Type 0 where
+  pub program : List (Operation L)
+  pub memory : List (Labelled L)
+  pub stack : List (Entry L)
+  pub log : List (Labelled L)
+
+module _ {L : Type 0} where
+  abbrev pub contents : List (Operation L) → List (Labelled L) → List (Entry L) → List (Labelled L) → Contents L
+  contents program memory stack log = record { program = program; memory = memory; stack = stack; log = log }
+
+  -- What a station made of these four parts keeps in mind of them; of stack and log only the lengths matter.
+  abbrev pub setup : List (Operation L) → List (Labelled L) → ℕ → ℕ → Setup L
+  setup program memory stack log = record {
+    program = program;
+    sizes = record { program = length program; memory = length memory; stack = stack; log = log };
+  }
+
+  abbrev pub made_of : Contents L → Setup L
+  made_of parts = setup parts.program parts.memory (length parts.stack) (length parts.log)
+
+  -- how long the four parts are
+  abbrev pub lengths : Contents L → Sizes
+  lengths parts = (made_of parts).sizes
+
+-- What a step comes to: an operation was done, with the round after it, or the go ends.
+abbrev pub Outcome : Type 0 → Type 0
+Outcome L = Result (Round L) End
+
+module _ {L : Type 0} where
+  abbrev pub done : Round L → Outcome L
+  done s = Ok s
+
+  abbrev pub finished : Outcome L
+  finished = Err Finished
+
+  abbrev pub later : Outcome L
+  later = Err OutOfFuel
+
+  abbrev pub stopped : Stop → Outcome L
+  stopped stop = Err (Stopped stop)
 
 -- Sums and differences are wrapped to 32 bits.
 abbrev pub sum : ℤ → ℤ → ℤ
@@ -121,20 +159,8 @@ module _ {L : Type 0} where
   next_keeping s N stack kept = done (record { pc = s.pc +ℤ pos 1; pc_label = N; stack = stack; kept = kept })
 
   abbrev pub halts : Operation L → Bool
-  halts (Push v) = false
-  halts Pop = false
-  halts Noop = false
-  halts Add = false
-  halts Sub = false
-  halts Less = false
-  halts Load = false
-  halts Store = false
-  halts Jump = false
-  halts (Bnz k) = false
-  halts (Call k due) = false
-  halts Return = false
-  halts Output = false
   halts Halt = true
+  halts op = false
 
   -- Without fuel an operation is not tried.
   abbrev pub with_fuel : ℕ → Outcome L → Outcome L
@@ -146,7 +172,7 @@ module _ {L : Type 0} (kind : Kind L) (table : Table L) (setup : Setup L) where
 
   -- Asks the table about an operation with the labels A, B and C.
   abbrev pub asking : Opcode → Round L → L → L → L → (L → L → Outcome L) → Outcome L
-  asking op s a b c then = ruled (table (record { op = op; pc = s.pc_label; a = a; b = b; c = c })) then
+  asking op s a b c then = ruled (table (request op s.pc_label a b c)) then
 
   -- two numbers to one
   abbrev pub arithmetic : Opcode → (ℤ → ℤ → ℤ) → Round L → Outcome L

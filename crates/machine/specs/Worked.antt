@@ -1,11 +1,10 @@
--- Worked steps: a table of what each comes to. Labels are levels, the rows are the published ones. Assumes nothing.
+-- Worked steps: a table of what each comes to. Labels are levels, the rows are the published ones.
 use Rattle.std.specs.Prelude.{◌≡◌, ℕ, zero, suc, true, false, List, [], ◌∷◌, map, ℤ, pos, negsuc}
 use Rattle.labels.specs.Level.{levels}
 use Rattle.labels.specs.declared.level.Level.{Level}
 use Rattle.labels.specs.declared.level.Level.TheVariants.{L0, L1, L2, L3, L5}
 use Rattle.rules.specs.Tables.{Table, published}
-use Rattle.machine.specs.Stations.{setup}
-use Rattle.machine.specs.Steps.{◌at◌, Round, Outcome, finished, stopped, done, step}
+use Rattle.machine.specs.Steps.{◌at◌, Round, Outcome, finished, stopped, done, setup, step}
 use Rattle.machine.specs.declared.answers.Stop.TheVariants.{TooFewNumbers, Forbidden, HaltAboveBottom}
 use Rattle.machine.specs.declared.parts.Labelled.{Labelled}
 use Rattle.machine.specs.declared.parts.Entry.{Entry}

@@ -1,4 +1,4 @@
--- Worked steps under other tables: which labels each operation asks with, and in which order a step tests. Assumes nothing.
+-- Worked steps under other tables: which labels each operation asks with, and in which order a step tests.
 use Rattle.std.specs.Prelude.{ℕ, Bool, true, false, cond, ◌&&◌, List, [], ◌∷◌, pos, negsuc, None, Option, ◌==◌}
 use Rattle.labels.specs.Level.{levels, rank}
 use Rattle.labels.specs.declared.level.Level.{Level}
@@ -8,8 +8,7 @@ use Rattle.rules.specs.declared.Opcode.{Opcode}
 use Rattle.rules.specs.declared.Opcode.TheVariants as opcode
 use Rattle.rules.specs.declared.Request.{Request}
 use Rattle.rules.specs.declared.Verdict.{Verdict}
-use Rattle.machine.specs.Stations.{setup}
-use Rattle.machine.specs.Steps.{◌at◌, Outcome, finished, later, stopped, done, step}
+use Rattle.machine.specs.Steps.{◌at◌, Outcome, finished, later, stopped, done, setup, step}
 use Rattle.machine.specs.Worked.{◌on◌, round, one_step, due_frame, Row, ◌gives◌}
 use Rattle.machine.specs.declared.answers.Stop.TheVariants.{OutsideProgram, TooFewNumbers, StackFull, OutsideMemory, Forbidden, NoFrame, LogFull}
 use Rattle.machine.specs.declared.parts.Entry.{Entry}

@@ -1,8 +1,8 @@
-// Why a call is refused, and why a round is stopped, each with its number.
+// The parts of a station, why a call is refused, what stops a round, and what ends a go, each with its number.
 ghost use Rattle.std.specs.Prelude.{◌≡◌};
-ghost use Rattle.machine.specs.Numbers.{refusal_number, stop_number};
+ghost use Rattle.machine.specs.Numbers.{most, refusal_number, refusal_part, stop_number};
 
-// The four parts of a station, in the order in which they are tested.
+/// The four parts of a station, in the order in which they are tested.
 #[derive(Clone, Copy, Debug, PartialEq, Eq, Hash)]
 pub enum Part {
     Program,
@@ -11,41 +11,76 @@ pub enum Part {
     Log,
 }
 
-// Why a call is refused. A refused call changes nothing.
+impl Part {
+    /// How long a part may be at most; every part has at least one element.
+    pub fn most(self) -> usize
+        ensures { result ≡ most self }
+    {
+        match self {
+            Part::Program | Part::Log => 4096,
+            Part::Memory | Part::Stack => 1024,
+        }
+    }
+}
+
+/// Why a call is refused. A refused call changes nothing.
 #[derive(Clone, Copy, Debug, PartialEq, Eq, Hash)]
 pub enum Refusal {
-    // making, with a part outside its limits
+    /// Making, with a part outside its limits.
     Limits(Part),
-    // a part not as long as when the station was made
+    /// A part not as long as when the station was made.
     Length(Part),
-    // a cell outside the memory
+    /// A cell outside the memory.
     Cell,
-    // a look at a label that is not at or below the clearance
+    /// A look at a label that is not at or below the clearance.
     Clearance,
 }
 
-// Why a round is stopped, which shuts the station.
+impl Refusal {
+    /// The part that the call is refused for, if it is for one.
+    pub fn part(self) -> Option<Part>
+        ensures { result ≡ refusal_part self }
+    {
+        match self {
+            Refusal::Limits(part) | Refusal::Length(part) => Some(part),
+            Refusal::Cell | Refusal::Clearance => None,
+        }
+    }
+}
+
+/// Why a round is stopped, which shuts the station.
 #[derive(Clone, Copy, Debug, PartialEq, Eq, Hash)]
 pub enum Stop {
-    // the program counter is outside the program
+    /// The program counter is outside the program.
     OutsideProgram,
-    // too few numbers above the nearest frame
+    /// Too few numbers above the nearest frame.
     TooFewNumbers,
-    // the stack is full
+    /// The stack is full.
     StackFull,
-    // an address outside the memory
+    /// An address outside the memory.
     OutsideMemory,
-    // the policy forbids the operation
+    /// The policy forbids the operation.
     Forbidden,
-    // a return without a frame
+    /// A return without a frame.
     NoFrame,
-    // the log is full
+    /// The log is full.
     LogFull,
-    // a halt above the bottom label
+    /// A halt above the bottom label.
     HaltAboveBottom,
 }
 
-// The number that a refusal is told by.
+/// Why a go takes no further step.
+#[derive(Clone, Copy, Debug, PartialEq, Eq, Hash)]
+pub enum End {
+    /// The round is finished.
+    Finished,
+    /// The round runs on later, for want of fuel.
+    OutOfFuel,
+    /// The round is stopped.
+    Stopped(Stop),
+}
+
+/// The number that a refusal is told by.
 impl From<Refusal> for u8 {
     ghost from_gives = { λ refusal n. n ≡ refusal_number refusal };
 
@@ -59,7 +94,7 @@ impl From<Refusal> for u8 {
     }
 }
 
-// The number that a stop is told by. Not by numbers of the variants, which those of Refusal could not have: two hold a part.
+/// The number that a stop is told by. Not by numbers of the variants, which those of a refusal could not have: two hold a part.
 impl From<Stop> for u8 {
     ghost from_gives = { λ stop n. n ≡ stop_number stop };
 

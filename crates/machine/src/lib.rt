@@ -2,10 +2,12 @@
 #![tactic(auto)]
 
 mod answers;
+mod calls;
 mod parts;
 mod theorems;
 
-pub use answers::{Part, Refusal, Stop};
+pub use answers::{End, Part, Refusal, Stop};
+pub use calls::{Call, State};
 pub use parts::{Entry, Frame, Labelled, Operation, Sizes};
 pub use theorems::{
     commands_grow, entered_is_shown, forbidden_does_nothing, fuel_spent, goes_add_up,

@@ -1,13 +1,15 @@
-// What the four parts of a station hold: operations in the program, labelled numbers in the memory and the log, entries on the stack.
+// What the four parts of a station hold: operations in the program, labelled numbers in the memory and the log, entries
+// on the stack.
 
-// A number with its label, written n@l.
+/// A number with its label, written n@l.
 #[derive(Clone, Copy, Debug, PartialEq, Eq, Hash)]
 pub struct Labelled<L> {
     pub value: i32,
     pub label: L,
 }
 
-// Where a call came from: the place to return to, whether a result is due there, and the label that the policy gave the frame.
+/// Where a call came from: the place to return to, whether a result is due there, and the label that the policy
+/// gave the frame.
 #[derive(Clone, Copy, Debug, PartialEq, Eq, Hash)]
 pub struct Frame<L> {
     pub place: i64,
@@ -15,14 +17,15 @@ pub struct Frame<L> {
     pub label: L,
 }
 
-// An entry of the stack.
+/// An entry of the stack.
 #[derive(Clone, Copy, Debug, PartialEq, Eq, Hash)]
 pub enum Entry<L> {
     Number(Labelled<L>),
     Frame(Frame<L>),
 }
 
-// An operation of a program. `Bnz` branches by so many places, `Call` hands over so many numbers and says whether a result is due.
+/// An operation of a program. `Bnz` branches by so many places, `Call` hands over so many numbers and says whether a
+/// result is due.
 #[derive(Clone, Copy, Debug, PartialEq, Eq, Hash)]
 pub enum Operation<L> {
     Push(Labelled<L>),
@@ -41,7 +44,7 @@ pub enum Operation<L> {
     Halt,
 }
 
-// How long the four parts are.
+/// How long the four parts are.
 #[derive(Clone, Copy, Debug, PartialEq, Eq, Hash)]
 pub struct Sizes {
     pub program: usize,

@@ -18,6 +18,10 @@ Same {L} s t = (request : Request L) → s request ≡ t request
 abbrev pub Obeys : {P L : Type 0} → (P → Table L → Type 0) → P → Request L → Option (Verdict L) → P → Type 0
 Obeys {P} {L} faithful before request answer after = (t : Table L) → faithful before t → (answer ≡ t request) × faithful after t
 
+-- a request about an operation, with the label p of the program counter and three labels more
+abbrev pub request : {L : Type 0} → Opcode → L → L → L → L → Request L
+request op p a b c = record { op = op; pc = p; a = a; b = b; c = c }
+
 -- new label n of the program counter, label r of the result
 abbrev pub verdict : {L : Type 0} → L → L → Option (Verdict L)
 verdict n r = Some (record { pc = n; result = r })

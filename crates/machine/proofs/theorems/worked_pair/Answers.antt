@@ -1,16 +1,15 @@
-use Rattle.std.proofs.Common.{ℕ, List, [], ◌∷◌, pos, refl, inl, inr}
+use Rattle.std.proofs.Common.{ℕ, List, [], refl, inl, inr}
 use Rattle.std.specs.Int.{int_wrap}
 use Rattle.labels.specs.Level.{levels}
 use Rattle.labels.specs.declared.level.Level.{Level}
 use Rattle.labels.specs.declared.level.Level.TheVariants.{L0}
 use Rattle.machine.specs.Lists.{none, more, ends, goes_on}
 use Rattle.machine.specs.Observer.{AlikeStations, AlikeCalls, same_operation, alike_push, same_start, alike_enter}
-use Rattle.machine.specs.Stations.{Call, enter}
-use Rattle.machine.specs.Steps.{◌at◌}
-use Rattle.machine.specs.WorkedPair.{one, two, Pair}
+use Rattle.machine.specs.Calls.{LentCall}
+use Rattle.machine.specs.WorkedPair.{one, two, third, Pair}
 use Rattle.machine.proofs.theorems.worked_pair.Goals as goal
 
-module _ (fuel : ℕ) (later : List (Call Level)) where
+module _ (fuel : ℕ) (later : List (LentCall Level)) where
   stations : AlikeStations levels L0 (one fuel) (two later)
   stations = (
     more same_operation (more same_operation (more (alike_push (inr (refl, refl)))
@@ -21,20 +20,20 @@ module _ (fuel : ℕ) (later : List (Call Level)) where
   calls : AlikeCalls levels L0 (one fuel) (two later)
   calls = inl (goes_on (alike_enter (inr (refl, refl))) (goes_on same_start (goes_on (alike_enter (inl refl)) (goes_on same_start ends))))
 
-apart : Pair (one 6) (two (enter 2 0 (pos 3 at L0) ∷ []))
+apart : Pair (one 6) (two third)
 unfolding int_wrap
 apart = record {
-  left_proper = ((tt, (tt, (tt, (tt, (tt, (tt, tt)))))), (tt, (tt, (λ q. refl, (tt, (tt, (λ q. refl, tt)))))));
-  right_proper = ((tt, (tt, (tt, (tt, (tt, (tt, (tt, (tt, (tt, (tt, (tt, tt))))))))))), (tt, (tt, (tt, (tt, (λ q. refl, (λ q. refl, (tt, (tt, (tt, (λ q. refl, (tt, tt))))))))))));
-  stations = stations 6 (enter 2 0 (pos 3 at L0) ∷ []);
-  calls = calls 6 (enter 2 0 (pos 3 at L0) ∷ []);
+  left_proper = ((refl, (refl, (refl, (refl, (refl, (refl, tt)))))), (λ _ q. refl, (λ _ q. refl, (λ _ q. refl, (λ _ q. refl, (λ _ q. refl, (λ _ q. refl, tt)))))));
+  right_proper = ((refl, (refl, (refl, (refl, (refl, (refl, (refl, (refl, (refl, (refl, (refl, tt))))))))))), (λ _ q. refl, (λ _ q. refl, (λ _ q. refl, (λ _ q. refl, (λ _ q. refl, (λ _ q. refl, (λ _ q. refl, (λ _ q. refl, (λ _ q. refl, (λ _ q. refl, (λ _ q. refl, tt))))))))))));
+  stations = stations 6 third;
+  calls = calls 6 third;
 }
 
 together : Pair (one 20) (two [])
 unfolding int_wrap
 together = record {
-  left_proper = ((tt, (tt, (tt, (tt, (tt, (tt, tt)))))), (tt, (tt, (λ q. refl, (tt, (tt, (λ q. refl, tt)))))));
-  right_proper = ((tt, (tt, (tt, (tt, (tt, (tt, (tt, (tt, (tt, (tt, tt)))))))))), (tt, (tt, (tt, (tt, (λ q. refl, (λ q. refl, (tt, (tt, (tt, (λ q. refl, tt)))))))))));
+  left_proper = ((refl, (refl, (refl, (refl, (refl, (refl, tt)))))), (λ _ q. refl, (λ _ q. refl, (λ _ q. refl, (λ _ q. refl, (λ _ q. refl, (λ _ q. refl, tt)))))));
+  right_proper = ((refl, (refl, (refl, (refl, (refl, (refl, (refl, (refl, (refl, (refl, tt)))))))))), (λ _ q. refl, (λ _ q. refl, (λ _ q. refl, (λ _ q. refl, (λ _ q. refl, (λ _ q. refl, (λ _ q. refl, (λ _ q. refl, (λ _ q. refl, (λ _ q. refl, tt)))))))))));
   stations = stations 20 [];
   calls = calls 20 [];
 }
@@ -47,6 +46,6 @@ returns c = record {
   more_commands = refl;
   together = together;
   equally_many = refl;
-  left_rests = tt;
-  right_rests = tt;
+  left_rests = refl;
+  right_rests = refl;
 }
