@@ -5,6 +5,7 @@ pub mod Stations
 pub mod Lists
 pub mod Observer
 pub mod Laws
+pub mod Texts
 pub mod Worked
 pub mod WorkedTests
 pub mod WorkedCalls

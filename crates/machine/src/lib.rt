@@ -4,6 +4,7 @@
 mod answers;
 mod calls;
 mod parts;
+mod texts;
 mod theorems;
 
 pub use answers::{End, Part, Refusal, Stop};

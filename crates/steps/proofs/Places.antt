@@ -1,6 +1,7 @@
 -- Elements of a list by their places.
 use Rattle.std.proofs.Common.{◌≡◌, ℕ, zero, suc, ◌<◌, ◌≤◌, ◌^◌, List, [], ◌∷◌, length, get_or, ℤ, pos, negsuc, Some, None, Ok, Err, sym, refl, ap, ◌∙◌, arith, w64, SFits, of_z}
 use Rattle.machine.specs.Steps.{stopped, element, at_place}
+use Rattle.machine.specs.declared.answers.End.TheVariants.{Stopped}
 use Rattle.machine.specs.declared.answers.Stop.TheVariants.{OutsideMemory}
 use Rattle.machine.specs.declared.parts.Labelled.{Labelled}
 use Rattle.steps.specs.Walks.{FindsCell}
@@ -55,5 +56,5 @@ module _ {L : Type 0} (memory : List (Labelled L)) (place address : ℤ) (same :
     λ then. place_there (stopped OutsideMemory) then memory address cell (ap (λ p. at_place memory p None Some) (sym same) ∙ found.2),
   )
 
-  pub finds_no_cell : at_place memory place None Some ≡ None → FindsCell memory address (Err OutsideMemory)
+  pub finds_no_cell : at_place memory place None Some ≡ None → FindsCell memory address (Err (Stopped OutsideMemory))
   finds_no_cell found = λ then. place_none (stopped OutsideMemory) then memory address (ap (λ p. at_place memory p None Some) (sym same) ∙ found)

@@ -1,4 +1,5 @@
 pub mod Places
+pub mod Windows
 pub mod Walks
 pub mod Operations
 pub mod Steps

@@ -1,6 +1,8 @@
--- Places of a program. Assumes nothing.
-use Rattle.std.specs.Prelude.{ℤ, pos, ◌≤ℤ◌}
+-- Places of a program.
+use Rattle.std.specs.Prelude.{ℤ, pos, ◌≤ℤ◌, ◌<ℤ◌}
+use Rattle.machine.specs.Numbers.{most}
+use Rattle.machine.specs.declared.answers.Part.TheVariants.{Program}
 
--- A place of a program: no program is longer than 4,096 operations.
+-- a place of some program, none of which is longer than its limit
 abbrev pub InProgram : ℤ → Type 0
-InProgram place = (pos 0 ≤ℤ place) × (place ≤ℤ pos 4095)
+InProgram place = (pos 0 ≤ℤ place) × (place <ℤ pos (most Program))

@@ -1,4 +1,4 @@
-// One step of a running station: the registers, the walks over the lent parts, and the operations.
+// One step of a running station: the registers, the window over the log, the walks over the lent parts, and the operations.
 #![tactic(auto)]
 
 mod operations;
@@ -6,6 +6,7 @@ mod place;
 mod registers;
 mod step;
 mod walks;
+mod window;
 
 pub use registers::Registers;
-pub use step::Outcome;
+pub use window::Window;

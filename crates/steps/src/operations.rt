@@ -1,13 +1,12 @@
 // The operations. An operation gives the registers after it, or the stop. Each is lent just the parts that it reaches, and of the
 // stack the entries in use as a slice of their own: there is no depth to require anything of, and nothing that a struct of all
 // parts would keep; it would lend each operation more than it reaches.
-ghost use Rattle.std.specs.Prelude.{◌≡◌, ◌+◌, ◌^◌, ◌<◌, ◌≤◌, ◌++◌, true, false, List, length, ℤ, pos, ◌+ℤ◌, FitsSigned};
+ghost use Rattle.std.specs.Prelude.{◌≡◌, ◌+◌, ◌^◌, ◌<◌, ◌≤◌, true, false, length, ℤ, pos, ◌+ℤ◌, FitsSigned};
 ghost use Rattle.std.specs.Int.{w32};
+ghost use Rattle.rules.specs.Tables.{request as request_of};
 ghost use Rattle.machine.specs.Steps.{tried, arithmetic as arithmetic_on, return_to};
-ghost use Rattle.machine.specs.declared.parts.Entry.{Entry as EntryD};
-ghost use Rattle.machine.specs.declared.parts.Labelled.{Labelled as LabelledD};
 ghost use Rattle.machine.specs.declared.parts.Operation.TheVariants.{Push, Pop, Noop, Load, Store, Jump, Bnz, Call, Return, Output};
-ghost use Rattle.steps.specs.Operations.{labelled as labelled_with, registers as registers_of, placed, starting, request as request_of, Rules, Heeded, Under, Does, OnStack, OnMemory};
+ghost use Rattle.steps.specs.Operations.{labelled as labelled_with, registers as registers_of, placed, starting, Rules, Heeded, AsksPolicy, Operates, with_memory, with_stack, with_used, with_log};
 ghost use Rattle.steps.specs.Walks.{newest};
 
 use crate::registers::{Fetched, Registers};
@@ -16,7 +15,7 @@ use crate::walks::{
     write_entry,
 };
 use labels::Label;
-use machine::{Entry, Frame, Labelled, Stop};
+use machine::{End, Entry, Frame, Labelled, Stop};
 use rules::{Opcode, Policy, Request, Verdict};
 
 // The same number with another label.
@@ -29,10 +28,10 @@ fn relabelled<L: Copy>(number: Labelled<L>, label: L) -> Labelled<L>
 
 // Asks the policy. It is inlined into each operation, where all but that operation's own rule falls away.
 #[inline(always)]
-fn ask<P: Policy<L>, L: Label>(policy: &mut P, request: Request<L>) -> Result<Verdict<L>, Stop>
-    ensures { Under P.Policy.faithful P.Policy.asked policy.old policy.new (λ answer. Heeded answer result) (λ table. Rules (table request) result) }
+fn ask<P: Policy<L>, L: Label>(policy: &mut P, request: Request<L>) -> Result<Verdict<L>, End>
+    ensures { AsksPolicy P.Policy policy.old policy.new (Heeded result) (λ table. Rules (table request) result) }
 {
-    policy.rule(request).ok_or(Stop::Forbidden)
+    policy.rule(request).ok_or(End::Stopped(Stop::Forbidden))
 }
 
 // What the policy is asked about an operation on no labels: the labels that an operation leaves out are bottom.
@@ -54,20 +53,20 @@ impl<L: Label> Fetched<L> {
     // The registers at a place, with this label and so many entries in use.
     #[inline(always)]
     fn goto(self, pc: i64, pc_label: L, depth: usize) -> Registers<L>
-        ensures { result ≡ registers_of pc pc_label depth self.commands }
+        ensures { result ≡ registers_of pc pc_label depth self.window }
     {
         Registers {
             pc,
             pc_label,
             depth,
-            commands: self.commands,
+            window: self.window,
         }
     }
 
     // On to the next place.
     #[inline(always)]
     fn next(self, pc_label: L, depth: usize) -> Registers<L>
-        ensures { result ≡ registers_of (self.pc.number +ℤ pos 1) pc_label depth self.commands }
+        ensures { result ≡ registers_of (self.pc.number +ℤ pos 1) pc_label depth self.window }
     {
         self.goto(self.pc.next(), pc_label, depth)
     }
@@ -78,11 +77,15 @@ impl<L: Label> Fetched<L> {
         depth: usize,
         stack: &mut [Entry<L>],
         policy: &mut P,
-    ) -> Result<Registers<L>, Stop>
-        ensures { (memory log : List (LabelledD L)) → self.commands ≤ length log → Does P.Policy.faithful P.Policy.asked policy.old policy.new memory memory stack.old stack.new log log (starting (placed self) depth) result (λ table setup. tried L.Label.kind table setup (Push number.now)) }
+    ) -> Result<Registers<L>, End>
+        ensures { Operates P.Policy policy.old policy.new
+            (with_stack stack.old)
+            (with_stack stack.new)
+            (placed self depth) result
+            (λ table setup. tried L.Label.kind table setup (Push number.now)) }
     {
         if depth >= stack.len() {
-            return Err(Stop::StackFull);
+            return Err(End::Stopped(Stop::StackFull));
         }
         let verdict = ask(
             policy,
@@ -100,8 +103,12 @@ impl<L: Label> Fetched<L> {
         self,
         used: &[Entry<L>],
         policy: &mut P,
-    ) -> Result<Registers<L>, Stop>
-        ensures { OnStack P.Policy.faithful P.Policy.asked policy.old policy.new used.now used.now (placed self) result (λ table setup. tried L.Label.kind table setup Pop) }
+    ) -> Result<Registers<L>, End>
+        ensures { Operates P.Policy policy.old policy.new
+            (with_used used.now)
+            (with_used used.now)
+            (placed self (length used.now)) result
+            (λ table setup. tried L.Label.kind table setup Pop) }
     {
         let a = top_number(used)?;
         let verdict = ask(
@@ -118,8 +125,12 @@ impl<L: Label> Fetched<L> {
         self,
         depth: usize,
         policy: &mut P,
-    ) -> Result<Registers<L>, Stop>
-        ensures { (stack : List (EntryD L)) → depth ≤ length stack → (memory log : List (LabelledD L)) → self.commands ≤ length log → Does P.Policy.faithful P.Policy.asked policy.old policy.new memory memory stack stack log log (starting (placed self) depth) result (λ table setup. tried L.Label.kind table setup Noop) }
+    ) -> Result<Registers<L>, End>
+        ensures { Operates P.Policy policy.old policy.new
+            (λ rest. rest)
+            (λ rest. rest)
+            (placed self depth) result
+            (λ table setup. tried L.Label.kind table setup Noop) }
     {
         let verdict = ask(policy, request(self.pc_label, Opcode::Noop))?;
         Ok(self.next(verdict.pc, depth))
@@ -132,9 +143,13 @@ impl<L: Label> Fetched<L> {
         combine: F,
         used: &mut [Entry<L>],
         policy: &mut P,
-    ) -> Result<Registers<L>, Stop>
+    ) -> Result<Registers<L>, End>
         requires { F.IsAlwaysCallable combine }
-        ensures { (applied : ℤ → ℤ → ℤ) → ((b a r : ℤ) → FitsSigned w32 b → FitsSigned w32 a → F.post combine b a r → r ≡ applied b a) → OnStack P.Policy.faithful P.Policy.asked policy.old policy.new used.old used.new (placed self) result (λ table setup. arithmetic_on L.Label.kind table setup op applied) }
+        ensures { (applied : ℤ → ℤ → ℤ)
+            → ((b a r : ℤ) → FitsSigned w32 b → FitsSigned w32 a → F.post combine b a r → r ≡ applied b a)
+            → Operates P.Policy policy.old policy.new (with_used used.old) (with_used used.new)
+            (placed self (length used.old)) result
+            (λ table setup. arithmetic_on L.Label.kind table setup op applied) }
     {
         let (b, a) = top_two(used)?;
         let depth = used.len() - 1;
@@ -160,8 +175,12 @@ impl<L: Label> Fetched<L> {
         memory: &[Labelled<L>],
         used: &mut [Entry<L>],
         policy: &mut P,
-    ) -> Result<Registers<L>, Stop>
-        ensures { (free : List (EntryD L)) (log : List (LabelledD L)) → self.commands ≤ length log → Does P.Policy.faithful P.Policy.asked policy.old policy.new memory.now memory.now (used.old ++ free) (used.new ++ free) log log (starting (placed self) (length used.old)) result (λ table setup. tried L.Label.kind table setup Load) }
+    ) -> Result<Registers<L>, End>
+        ensures { Operates P.Policy policy.old policy.new
+            (λ rest. with_memory memory.now (with_used used.old rest))
+            (λ rest. with_memory memory.now (with_used used.new rest))
+            (placed self (length used.old)) result
+            (λ table setup. tried L.Label.kind table setup Load) }
     {
         let a = top_number(used)?;
         let Found { element: cell, .. } = find_cell(memory, a)?;
@@ -184,8 +203,12 @@ impl<L: Label> Fetched<L> {
         memory: &mut [Labelled<L>],
         used: &[Entry<L>],
         policy: &mut P,
-    ) -> Result<Registers<L>, Stop>
-        ensures { OnMemory P.Policy.faithful P.Policy.asked policy.old policy.new memory.old memory.new used.now (placed self) result (λ table setup. tried L.Label.kind table setup Store) }
+    ) -> Result<Registers<L>, End>
+        ensures { Operates P.Policy policy.old policy.new
+            (λ rest. with_memory memory.old (with_used used.now rest))
+            (λ rest. with_memory memory.new (with_used used.now rest))
+            (placed self (length used.now)) result
+            (λ table setup. tried L.Label.kind table setup Store) }
     {
         let (b, a) = top_two(used)?;
         let Found {
@@ -210,8 +233,12 @@ impl<L: Label> Fetched<L> {
         by: i32,
         used: &[Entry<L>],
         policy: &mut P,
-    ) -> Result<Registers<L>, Stop>
-        ensures { OnStack P.Policy.faithful P.Policy.asked policy.old policy.new used.now used.now (placed self) result (λ table setup. tried L.Label.kind table setup (Bnz by)) }
+    ) -> Result<Registers<L>, End>
+        ensures { Operates P.Policy policy.old policy.new
+            (with_used used.now)
+            (with_used used.now)
+            (placed self (length used.now)) result
+            (λ table setup. tried L.Label.kind table setup (Bnz by)) }
     {
         let a = top_number(used)?;
         let verdict = ask(
@@ -230,14 +257,18 @@ impl<L: Label> Fetched<L> {
         due: bool,
         used: &mut [Entry<L>],
         policy: &mut P,
-    ) -> Result<Registers<L>, Stop>
-        ensures { OnStack P.Policy.faithful P.Policy.asked policy.old policy.new used.old used.new (placed self) result (λ table setup. tried L.Label.kind table setup (Call count due)) }
+    ) -> Result<Registers<L>, End>
+        ensures { Operates P.Policy policy.old policy.new
+            (with_used used.old)
+            (with_used used.new)
+            (placed self (length used.old)) result
+            (λ table setup. tried L.Label.kind table setup (Call count due)) }
     {
         let a = top_number(used)?;
         let depth = used.len();
         let arguments = usize::from(count);
         if !has_numbers(&used[..depth - 1], arguments) {
-            return Err(Stop::TooFewNumbers);
+            return Err(End::Stopped(Stop::TooFewNumbers));
         }
         let verdict = ask(
             policy,
@@ -255,18 +286,22 @@ impl<L: Label> Fetched<L> {
         Ok(self.goto(i64::from(a.value), verdict.pc, depth))
     }
 
-    // The log is lent whole, with how many of its commands are in use, since it has a fixed length.
+    // The log is lent whole, with the window over it, since it has a fixed length.
     pub(crate) fn output<P: Policy<L>>(
         self,
         used: &[Entry<L>],
         log: &mut [Labelled<L>],
         policy: &mut P,
-    ) -> Result<Registers<L>, Stop>
-        ensures { (free : List (EntryD L)) (memory : List (LabelledD L)) → self.commands ≤ length log.old → Does P.Policy.faithful P.Policy.asked policy.old policy.new memory memory (used.now ++ free) (used.now ++ free) log.old log.new (starting (placed self) (length used.now)) result (λ table setup. tried L.Label.kind table setup Output) }
+    ) -> Result<Registers<L>, End>
+        ensures { Operates P.Policy policy.old policy.new
+            (λ rest. with_log log.old (with_used used.now rest))
+            (λ rest. with_log log.new (with_used used.now rest))
+            (placed self (length used.now)) result
+            (λ table setup. tried L.Label.kind table setup Output) }
     {
         let a = top_number(used)?;
-        if self.commands >= log.len() {
-            return Err(Stop::LogFull);
+        if self.window.is_full(log) {
+            return Err(End::Stopped(Stop::LogFull));
         }
         let verdict = ask(
             policy,
@@ -275,11 +310,8 @@ impl<L: Label> Fetched<L> {
                 ..request(self.pc_label, Opcode::Output)
             },
         )?;
-        write(&mut log[self.commands], relabelled(a, verdict.result));
-        let logged = Fetched {
-            commands: self.commands + 1,
-            ..self
-        };
+        let window = self.window.push(log, relabelled(a, verdict.result));
+        let logged = Fetched { window, ..self };
         Ok(logged.next(verdict.pc, used.len() - 1))
     }
 }
@@ -290,8 +322,12 @@ impl<L: Label> Registers<L> {
         self,
         used: &[Entry<L>],
         policy: &mut P,
-    ) -> Result<Registers<L>, Stop>
-        ensures { OnStack P.Policy.faithful P.Policy.asked policy.old policy.new used.now used.now self result (λ table setup. tried L.Label.kind table setup Jump) }
+    ) -> Result<Registers<L>, End>
+        ensures { Operates P.Policy policy.old policy.new
+            (with_used used.now)
+            (with_used used.now)
+            (starting self (length used.now)) result
+            (λ table setup. tried L.Label.kind table setup Jump) }
     {
         let a = top_number(used)?;
         let verdict = ask(
@@ -313,8 +349,12 @@ impl<L: Label> Registers<L> {
         self,
         used: &mut [Entry<L>],
         policy: &mut P,
-    ) -> Result<Registers<L>, Stop>
-        ensures { OnStack P.Policy.faithful P.Policy.asked policy.old policy.new used.old used.new self result (λ table setup. tried L.Label.kind table setup Return) }
+    ) -> Result<Registers<L>, End>
+        ensures { Operates P.Policy policy.old policy.new
+            (with_used used.old)
+            (with_used used.new)
+            (starting self (length used.old)) result
+            (λ table setup. tried L.Label.kind table setup Return) }
     {
         let Found {
             index,
@@ -323,7 +363,7 @@ impl<L: Label> Registers<L> {
         if frame.due {
             self.return_number(index, frame, used, policy)
         } else {
-            self.return_nothing(index, frame, policy)
+            self.return_nothing(index, frame, used, policy)
         }
     }
 
@@ -333,9 +373,13 @@ impl<L: Label> Registers<L> {
         frame: Frame<L>,
         used: &mut [Entry<L>],
         policy: &mut P,
-    ) -> Result<Registers<L>, Stop>
+    ) -> Result<Registers<L>, End>
         requires { index < length used.old }
-        ensures { OnStack P.Policy.faithful P.Policy.asked policy.old policy.new used.old used.new self result (λ table setup. return_to L.Label.kind table setup true frame (newest index used.old)) }
+        ensures { Operates P.Policy policy.old policy.new
+            (with_used used.old)
+            (with_used used.new)
+            (starting self (length used.old)) result
+            (λ table setup. return_to L.Label.kind table setup true frame (newest index used.old)) }
     {
         let a = top_number(used)?;
         let verdict = ask(
@@ -359,9 +403,15 @@ impl<L: Label> Registers<L> {
         self,
         index: usize,
         frame: Frame<L>,
+        used: &[Entry<L>],
         policy: &mut P,
-    ) -> Result<Registers<L>, Stop>
-        ensures { (used : List (EntryD L)) → index < length used → OnStack P.Policy.faithful P.Policy.asked policy.old policy.new used used self result (λ table setup. return_to L.Label.kind table setup false frame (newest index used)) }
+    ) -> Result<Registers<L>, End>
+        requires { index < length used.now }
+        ensures { Operates P.Policy policy.old policy.new
+            (with_used used.now)
+            (with_used used.now)
+            (starting self (length used.now)) result
+            (λ table setup. return_to L.Label.kind table setup false frame (newest index used.now)) }
     {
         let verdict = ask(
             policy,

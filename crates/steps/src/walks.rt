@@ -1,11 +1,12 @@
 // Walks over the lent parts: an element by its place, the numbers on top of the entries in use, their nearest frame.
-// What passes a number on is always inlined: else a label of two fields is packed into one word and taken apart again at each step.
+// What passes a number on is always inlined: else a label of two fields is packed into one word and taken apart again
+// at each step.
 ghost use Rattle.std.specs.Prelude.{◌≡◌, ◌-◌, ◌<◌, ◌≤◌, ◌^◌, ◌∷◌, ◌++◌, reverse, length, take, drop, nat_le};
 ghost use Rattle.std.specs.List.{list_all};
 ghost use Rattle.machine.specs.declared.parts.Entry.TheVariants.{Number};
-ghost use Rattle.steps.specs.Walks.{newest, is_number, numbers_on_top, Takes, TakesTwo, FindsFrame, Finds, FindsCell};
+ghost use Rattle.steps.specs.Walks.{newest, is_number, numbers_on_top, stack_of, TakesTop, TakesTopTwo, FindsFrame, Finds, FindsCell};
 
-use machine::{Entry, Frame, Labelled, Stop};
+use machine::{End, Entry, Frame, Labelled, Stop};
 
 // An element of a part, and where it stands.
 #[derive(Clone, Copy, Debug, PartialEq, Eq)]
@@ -31,7 +32,7 @@ pub fn find<T>(part: &[T], place: i64) -> Option<Found<&T>>
 pub fn find_cell<L: Copy>(
     memory: &[Labelled<L>],
     address: Labelled<L>,
-) -> Result<Found<Labelled<L>>, Stop>
+) -> Result<Found<Labelled<L>>, End>
     ensures { FindsCell memory.now address.value result }
 {
     match find(memory, i64::from(address.value)) {
@@ -39,29 +40,29 @@ pub fn find_cell<L: Copy>(
             index,
             element: read(element),
         }),
-        None => Err(Stop::OutsideMemory),
+        None => Err(End::Stopped(Stop::OutsideMemory)),
     }
 }
 
 // The top number, which must lie above the nearest frame.
 #[inline(always)]
-pub fn top_number<L: Copy>(used: &[Entry<L>]) -> Result<Labelled<L>, Stop>
-    ensures { Takes used.now (length used.now) result }
+pub fn top_number<L: Copy>(used: &[Entry<L>]) -> Result<Labelled<L>, End>
+    ensures { TakesTop used.now result }
 {
     match used.last() {
         Some(Entry::Number(number)) => Ok(read(number)),
-        _ => Err(Stop::TooFewNumbers),
+        _ => Err(End::Stopped(Stop::TooFewNumbers)),
     }
 }
 
 // The top two numbers, the lower one first, which must both lie above the nearest frame.
 #[inline(always)]
-pub fn top_two<L: Copy>(used: &[Entry<L>]) -> Result<(Labelled<L>, Labelled<L>), Stop>
-    ensures { TakesTwo used.now (length used.now) result }
+pub fn top_two<L: Copy>(used: &[Entry<L>]) -> Result<(Labelled<L>, Labelled<L>), End>
+    ensures { TakesTopTwo used.now result }
 {
     match used {
         [.., Entry::Number(b), Entry::Number(a)] => Ok((read(b), read(a))),
-        _ => Err(Stop::TooFewNumbers),
+        _ => Err(End::Stopped(Stop::TooFewNumbers)),
     }
 }
 
@@ -108,28 +109,29 @@ fn are_numbers<L: Copy>(used: &[Entry<L>], count: usize) -> bool
 
 // Whether so many numbers lie above the nearest frame.
 pub fn has_numbers<L: Copy>(used: &[Entry<L>], count: usize) -> bool
-    ensures { result ≡ nat_le count (numbers_on_top (newest (length used.now) used.now)) }
+    ensures { result ≡ nat_le count (numbers_on_top (stack_of used.now)) }
 {
     count <= used.len() && are_numbers(used, count)
 }
 
 // The nearest frame.
 #[inline(always)]
-pub fn nearest_frame<L: Copy>(used: &[Entry<L>]) -> Result<Found<Frame<L>>, Stop>
-    ensures { FindsFrame used.now (length used.now) result }
+pub fn nearest_frame<L: Copy>(used: &[Entry<L>]) -> Result<Found<Frame<L>>, End>
+    ensures { FindsFrame used.now result }
 {
     for (index, entry) in used.iter().enumerate().rev() {
         if let Entry::Frame(element) = *entry {
             return Ok(Found { index, element });
         }
     }
-    Err(Stop::NoFrame)
+    Err(End::Stopped(Stop::NoFrame))
 }
 
 // Takes the last element off, and puts another under the `count` before it, each of which moves up by one place.
 pub fn insert_under<T: Copy>(part: &mut [T], count: usize, element: T)
     requires { count < length part.old }
-    ensures { let below = newest (length part.old - 1) part.old in newest (length part.old) part.new ≡ take count below ++ element ∷ drop count below }
+    ensures { let below = newest (length part.old - 1) part.old in
+        newest (length part.old) part.new ≡ take count below ++ element ∷ drop count below }
 {
     let last = part.len() - 1;
     let index = last - count;

@@ -9,17 +9,17 @@ use Rattle.std.proofs.lemmas.Int.{to_z-of_z}
 use Rattle.steps.proofs.registers.Fetched.arithmetic.Goals as goal
 
 pub returns-in_err-b : goal.returns-in_err-b
-returns-in_err-b g c applied given free memory log room =
-    used_hands_on (placed c.args.self) c.args.used.now free c.from_residual.ensures.1 unasked (λ table true setup _. c.in_err-b.ensures _)
+returns-in_err-b g c applied given rest room =
+    used_hands_on (placed c.args.self 0) c.args.used.now rest c.from_residual.ensures.1 unasked (λ table true. c.in_err-b.ensures _)
 
 pub returns-in_err-verdict : goal.returns-in_err-verdict
-returns-in_err-verdict g c applied given free memory log room =
+returns-in_err-verdict g c applied given rest room =
     let asks = asked (λ q. record q { a = c.in_ok-b.a.label; b = c.in_ok-b.b.label }) (Err c.in_err-verdict.field-0.0) c.request.ensures c.in_err-verdict.ensures in
-    used_hands_on (placed c.args.self) c.args.used.now free c.from_residual-in_err-verdict.ensures.1 (forbidden asks)
-    (λ table true setup _. c.in_ok-b.ensures.1 _ ∙ asks.holds table true _)
+    used_hands_on (placed c.args.self 0) c.args.used.now rest c.from_residual-in_err-verdict.ensures.1 (forbidden asks)
+    (λ table true. c.in_ok-b.ensures.1 _ ∙ asks.holds table true _)
 
 pub returns : goal.returns
-returns g c applied given free memory log room =
+returns g c applied given rest room =
     let used = c.args.used.now in
     let n = length used in
     let two = c.in_ok-b.ensures in
@@ -31,7 +31,7 @@ returns g c applied given free memory log room =
     let value = to_z-of_z w32 c.combine.result fits ∙ given c.in_ok-b.b.value c.in_ok-b.a.value c.combine.result fits_b fits_a gave in
     let under : n - 1 - 1 ≡ n - 2 = omega arith in
     let written = newest_put used (n - 1) (n - 1 - 1) refl (omega (arith, two.0)) (omega (arith, two.0)) in
-    used_does (placed c.args.self) used free _ c.next.ensures (allowed asks) (length-set _ _ _) (omega arith) room
-    (λ table true setup _.
+    used_does (placed c.args.self 0) used rest _ rest c.next.ensures (allowed c.in_ok-verdict.verdict asks) (length-set _ _ _) (omega arith) room.commands
+    (λ table true.
     done_stack (written ∙ ap (λ k. c.write_entry.new.entry ∷ newest k used) under ∙ ap (λ e. e ∷ newest (n - 2) used) c.write_entry.ensures ∙ ap (λ v. Number (v at c.in_ok-verdict.verdict.result) ∷ newest (n - 2) used) value)
     ∙ sym (two.1 _ ∙ asks.holds table true _))

@@ -1,6 +1,6 @@
 use Rattle.std.proofs.Common.{◌≡◌, ◌-◌, ◌<◌, ◌∷◌, ◌++◌, length, take, drop, ℤ, pos, ◌+ℤ◌, sym, ap, ◌∙◌, arith, Ok, Err, w32, w64, SFits, to_z, of_z, rules}
 use Rattle.steps.specs.Operations.{placed}
-use Rattle.steps.proofs.Doing.{asked, used_stops, used_hands_on, used_does, done_stack, done_place, allowed, forbidden, unasked}
+use Rattle.steps.proofs.Doing.{asked, used_ends, used_hands_on, used_does, done_stack, done_place, allowed, forbidden, unasked}
 use Rattle.steps.proofs.Stacks.{newest_first, length_newest}
 use Rattle.steps.specs.Walks.{newest, numbers_on_top}
 use Rattle.machine.specs.declared.parts.Entry.{Entry}
@@ -11,28 +11,28 @@ use Rattle.std.proofs.lemmas.Bool.{leb-false}
 use Rattle.steps.proofs.registers.Fetched.call.Goals as goal
 
 pub returns-in_err-a : goal.returns-in_err-a
-returns-in_err-a g c free memory log room =
-    used_hands_on (placed c.args.self) c.args.used.now free c.from_residual.ensures.1 unasked (λ table true setup _. c.in_err-a.ensures _)
+returns-in_err-a g c rest room =
+    used_hands_on (placed c.args.self 0) c.args.used.now rest c.from_residual.ensures.1 unasked (λ table true. c.in_err-a.ensures _)
 
 pub returns-then-not-has_numbers : goal.returns-then-not-has_numbers
-returns-then-not-has_numbers g c free memory log room =
+returns-then-not-has_numbers g c rest room =
     let used = c.args.used.now in
     let n = length used in
     let below = newest (n - 1) used in
     let counted = leb-false c.from-arguments.result _ (sym c.if-not-has_numbers.ensures) in
     let few : numbers_on_top below < c.args.count = omega (arith, ap numbers_on_top (newest_first used (n - 1) (omega arith))) in
-    used_stops (placed c.args.self) used free unasked
-    (λ table true setup _. c.in_ok-a.ensures.1 _ ∙ takes_too_many c.args.count below _ few)
+    used_ends (placed c.args.self 0) used rest unasked
+    (λ table true. c.in_ok-a.ensures.1 _ ∙ takes_too_many c.args.count below _ few)
 
 pub returns-in_err-verdict : goal.returns-in_err-verdict
-returns-in_err-verdict g c free memory log room =
+returns-in_err-verdict g c rest room =
     let used = c.args.used.now in
     let n = length used in
     let below = newest (n - 1) used in
     let enough = enough_numbers used (n - 1) c.from-arguments.result c.args.count (omega arith) c.from-arguments.ensures c.if-not-has_numbers.ensures in
     let asks = asked (λ q. record q { a = c.in_ok-a.a.label }) (Err c.in_err-verdict.field-0.0) c.request.ensures c.in_err-verdict.ensures in
-    used_hands_on (placed c.args.self) used free c.from_residual-in_err-verdict.ensures.1 (forbidden asks)
-    (λ table true setup _. c.in_ok-a.ensures.1 _ ∙ takes_all c.args.count below _ enough ∙ asks.holds table true _)
+    used_hands_on (placed c.args.self 0) used rest c.from_residual-in_err-verdict.ensures.1 (forbidden asks)
+    (λ table true. c.in_ok-a.ensures.1 _ ∙ takes_all c.args.count below _ enough ∙ asks.holds table true _)
 
 pub insert_under-requires : goal.insert_under-requires
 insert_under-requires g c =
@@ -44,7 +44,7 @@ insert_under-requires g c =
     omega (arith, a.0, numbers_within below, length_newest (n - 1) used (omega arith))
 
 pub returns : goal.returns
-returns g c free memory log room =
+returns g c rest room =
     let a = c.in_ok-a.ensures in
     let used = c.args.used.now in
     let n = length used in
@@ -61,7 +61,7 @@ returns g c free memory log room =
     ∙ ap (λ n. take n below ++ frame (to_z w64 (of_z w64 c.next.result)) ∷ drop n below) c.from-arguments.ensures
     ∙ ap (λ place. take c.args.count below ++ frame place ∷ drop c.args.count below) next
     ∙ taken_onto c.args.count below (frame (c.args.self.pc.number +ℤ pos 1)) enough in
-    used_does (placed c.args.self) used free _ c.goto.ensures (allowed asks) (omega arith) (omega arith) room
-    (λ table true setup _.
+    used_does (placed c.args.self 0) used rest _ rest c.goto.ensures (allowed c.in_ok-verdict.verdict asks) (omega arith) (omega arith) room.commands
+    (λ table true.
     done_place place ∙ done_stack inserted
     ∙ sym (a.1 _ ∙ takes_all c.args.count below _ enough ∙ asks.holds table true _))

@@ -1,38 +1,38 @@
-use Rattle.std.proofs.Common.{◌<◌, ◌≤◌, [], ◌∷◌, ◌++◌, length, take, refl, sym, ap, ◌∙◌, arith, Ok, Err}
-use Rattle.steps.specs.Operations.{placed}
-use Rattle.steps.proofs.Doing.{asked, used_stops, used_hands_on, used_does, done_commands, with_room, no_room, allowed, forbidden, unasked}
-use Rattle.std.proofs.lemmas.List.{take_more_set, length-take-le}
+use Rattle.std.proofs.Common.{◌<◌, ◌≤◌, ◌∷◌, ◌++◌, [], length, refl, sym, ap, ◌∙◌, arith, Ok, Err}
+use Rattle.std.proofs.lemmas.List.{length-take-le}
+use Rattle.std.proofs.lemmas.Bool.{leb-true, leb-false}
+use Rattle.steps.specs.Operations.{placed, with_log}
+use Rattle.steps.specs.Windows.{logged}
+use Rattle.steps.proofs.Doing.{asked, used_ends, used_hands_on, used_does, done_commands, with_room, no_room, allowed, forbidden, unasked}
 use Rattle.steps.proofs.registers.Fetched.output.Goals as goal
 
 pub returns-in_err-a : goal.returns-in_err-a
-returns-in_err-a g c free memory room =
-    used_hands_on (placed c.args.self) c.args.used.now free c.from_residual.ensures.1 unasked (λ table true setup _. c.in_err-a.ensures _)
+returns-in_err-a g c rest room =
+    used_hands_on (placed c.args.self 0) c.args.used.now (with_log c.args.log.now rest) c.from_residual.ensures.1 unasked (λ table true. c.in_err-a.ensures _)
 
-pub returns-then-self-log : goal.returns-then-self-log
-returns-then-self-log g c free memory room =
-    let commands = take c.args.self.commands c.args.log.now in
-    used_stops (placed c.args.self) c.args.used.now free unasked
-    (λ table true setup logs.
-    let full : setup.sizes.log ≤ length commands = omega (arith, logs, length-take-le c.args.self.commands c.args.log.now (omega arith)) in
-    c.in_ok-a.ensures.1 _ ∙ no_room _ _ _ _ full)
+pub returns-then-is_full : goal.returns-then-is_full
+returns-then-is_full g c rest room =
+    let window = c.args.self.window in
+    let full : length c.args.log.now ≤ length (logged window c.args.log.now) = omega (arith, length-take-le window.count c.args.log.now room.commands, leb-true _ _ (sym c.if-is_full.ensures)) in
+    used_ends (placed c.args.self 0) c.args.used.now (with_log c.args.log.now rest) unasked
+    (λ table true. c.in_ok-a.ensures.1 _ ∙ no_room _ _ _ _ full)
 
 pub returns-in_err-verdict : goal.returns-in_err-verdict
-returns-in_err-verdict g c free memory room =
-    let commands = take c.args.self.commands c.args.log.now in
+returns-in_err-verdict g c rest room =
+    let window = c.args.self.window in
+    let more : length (logged window c.args.log.now) < length c.args.log.now = omega (arith, length-take-le window.count c.args.log.now room.commands, leb-false _ _ (sym c.if-is_full.ensures)) in
     let asks = asked (λ q. record q { a = c.in_ok-a.a.label }) (Err c.in_err-verdict.field-0.0) c.request.ensures c.in_err-verdict.ensures in
-    used_hands_on (placed c.args.self) c.args.used.now free c.from_residual-in_err-verdict.ensures.1 (forbidden asks)
-    (λ table true setup logs.
-    let more : length commands < setup.sizes.log = omega (arith, logs, length-take-le c.args.self.commands c.args.log.now (omega arith)) in
-    c.in_ok-a.ensures.1 _ ∙ with_room _ _ _ _ more ∙ asks.holds table true _)
+    used_hands_on (placed c.args.self 0) c.args.used.now (with_log c.args.log.now rest) c.from_residual-in_err-verdict.ensures.1 (forbidden asks)
+    (λ table true. c.in_ok-a.ensures.1 _ ∙ with_room _ _ _ _ more ∙ asks.holds table true _)
 
 pub returns : goal.returns
-returns g c free memory room =
-    let asks = asked (λ q. record q { a = c.in_ok-a.a.label }) (Ok c.in_ok-verdict.verdict) c.request.ensures c.in_ok-verdict.ensures in
-    let a = c.in_ok-a.ensures in
-    let n = c.args.self.commands in
+returns g c rest room =
+    let window = c.args.self.window in
     let log = c.args.log.now in
-    used_does (placed c.args.self) c.args.used.now free _ c.next.ensures (allowed asks) refl (omega arith) (omega arith)
-    (λ table true setup logs.
-    let more : length (take n log) < setup.sizes.log = omega (arith, logs, length-take-le n log (omega arith)) in
-    done_commands (take_more_set log n c.write.new.place (omega arith) ∙ ap (λ v. take n log ++ v ∷ []) (c.write.ensures ∙ c.relabelled.ensures))
-    ∙ sym (a.1 _ ∙ with_room _ _ _ _ more ∙ asks.holds table true _))
+    let more : length (logged window log) < length log = omega (arith, length-take-le window.count log room.commands, leb-false _ _ (sym c.if-is_full.ensures)) in
+    let asks = asked (λ q. record q { a = c.in_ok-a.a.label }) (Ok c.in_ok-verdict.verdict) c.request.ensures c.in_ok-verdict.ensures in
+    let fits : c.push-window.result.count ≤ length log = omega (arith, c.push-window.ensures.count, leb-false _ _ (sym c.if-is_full.ensures)) in
+    used_does (placed c.args.self 0) c.args.used.now (with_log log rest) _ (with_log _ rest) c.next.ensures (allowed c.in_ok-verdict.verdict asks) refl (omega arith) fits
+    (λ table true.
+    done_commands (c.push-window.ensures.pushed ∙ ap (λ v. logged window log ++ v ∷ []) c.relabelled.ensures)
+    ∙ sym (c.in_ok-a.ensures.1 _ ∙ with_room _ _ _ _ more ∙ asks.holds table true _))

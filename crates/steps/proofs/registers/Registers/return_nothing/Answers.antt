@@ -4,13 +4,13 @@ use Rattle.steps.proofs.Doing.{asked, used_hands_on, used_does, done_place, allo
 use Rattle.steps.proofs.registers.Registers.return_nothing.Goals as goal
 
 pub returns-in_err-verdict : goal.returns-in_err-verdict
-returns-in_err-verdict g c used inside free memory log room =
+returns-in_err-verdict g c rest room =
     let asks = asked (λ q. record q { a = c.args.frame.label }) (Err c.in_err-verdict.field-0.0) c.request.ensures c.in_err-verdict.ensures in
-    used_hands_on c.args.self used free c.from_residual.ensures.1 (forbidden asks) (λ table true setup _. asks.holds table true _)
+    used_hands_on c.args.self c.args.used.now rest c.from_residual.ensures.1 (forbidden asks) (λ table true. asks.holds table true _)
 
 pub returns : goal.returns
-returns g c used inside free memory log room =
+returns g c rest room =
     let asks = asked (λ q. record q { a = c.args.frame.label }) (Ok c.in_ok-verdict.verdict) c.request.ensures c.in_ok-verdict.ensures in
     let fits : SFits w64 c.args.frame.place = search rules in
-    used_does c.args.self used free used refl (allowed asks) refl (omega arith) room
-    (λ table true setup _. done_place (to_z-of_z w64 c.args.frame.place fits) ∙ sym (asks.holds table true _))
+    used_does c.args.self c.args.used.now rest _ rest refl (allowed c.in_ok-verdict.verdict asks) refl (omega arith) room.commands
+    (λ table true. done_place (to_z-of_z w64 c.args.frame.place fits) ∙ sym (asks.holds table true _))
