@@ -1,17 +1,17 @@
--- The steps that a go in code is made of, in the words of the definitions. Assumes nothing.
-use Rattle.std.specs.Prelude.{◌≡◌, ◌≢◌, ℕ, ◌<◌, List, length, None, Some, Option}
+-- The steps that a go in code is made of, in the words of the definitions.
+use Rattle.std.specs.Prelude.{◌≡◌, ℕ, Ok, Err, Result}
 use Rattle.labels.specs.Kind.{Kind}
 use Rattle.rules.specs.Tables.{Table}
+use Rattle.rules.specs.declared.Policy.{Ghosts as Policy}
 use Rattle.machine.specs.Stations.{Station, idle, running, shut, run_steps}
-use Rattle.machine.specs.Steps.{Setup, Round, Outcome, finished, later, stopped, done, step}
-use Rattle.machine.specs.declared.parts.Entry.{Entry}
-use Rattle.machine.specs.declared.parts.Labelled.{Labelled}
-use Rattle.machine.specs.declared.parts.Operation.{Operation}
+use Rattle.machine.specs.Steps.{Round, Contents, made_of}
+use Rattle.machine.specs.declared.answers.End.{End}
+use Rattle.machine.specs.declared.answers.End.TheVariants.{Finished, OutOfFuel, Stopped}
 use Rattle.steps.specs.Operations.{round}
-use Rattle.station.specs.declared.running.End.{End}
-use Rattle.station.specs.declared.running.End.TheVariants.{Finished, OutOfFuel, Stopped}
-use Rattle.station.specs.declared.running.Ran.{Ran}
-use Rattle.station.specs.declared.states.Running.{Running}
+use Rattle.steps.specs.declared.registers.Registers.{Registers}
+use Rattle.station.specs.Views.{station_with, made_sizes}
+use Rattle.station.specs.declared.any.Station.{Station as StationCode}
+use Rattle.station.specs.declared.running.Running.{Running}
 
 module _ {L : Type 0} where
   -- The station after a go that ended so, of the round as it stood then.
@@ -20,33 +20,17 @@ module _ {L : Type 0} where
   ended OutOfFuel s = running s
   ended (Stopped stop) s = shut stop s.pc s.kept
 
-  -- What a step came to: an end, or with none the round after it.
-  abbrev pub came_to : Option End → Round L → Outcome L
-  came_to None s = done s
-  came_to (Some Finished) s = finished
-  came_to (Some OutOfFuel) s = later
-  came_to (Some (Stopped stop)) s = stopped stop
+  -- a station that was settled so, whatever its parts hold
+  abbrev pub Settles : Running L → End → StationCode L → Type 0
+  Settles st end settled = (parts : Contents L) → station_with settled parts ≡ ended end (round st.registers parts)
 
-  -- The end of a go with no fuel left, whatever the parts hold.
-  abbrev pub Rests : Kind L → List (Operation L) → Running L → End → Type 0
-  Rests kind program st end =
-      (table : Table L) (setup : Setup L) → setup.program ≡ program → (memory log : List (Labelled L)) (stack : List (Entry L))
-      → came_to (Some end) (round st.registers memory stack log) ≡ step kind table setup 0 (round st.registers memory stack log)
+  -- what a step comes to that leaves these registers, or the end
+  abbrev pub advanced : Result (Unit {0}) End → Running L → Result (Registers L) End
+  advanced (Ok _) st = Ok st.registers
+  advanced (Err end) st = Err end
 
-module _ {P L : Type 0} (kind : Kind L) (faithful : P → Table L → Type 0) (policy policy' : P) (program : List (Operation L)) (memory memory' : List (Labelled L)) (stack stack' : List (Entry L)) (log log' : List (Labelled L)) (fuel : ℕ) (st : Running L) where
-  -- One step of a go.
-  pub record Turns (st' : Running L) (end : Option End) : Type 0 where
-    pub comes_to : (table : Table L) → faithful policy table
-        → (setup : Setup L) → setup.program ≡ program → setup.sizes.stack ≡ length stack → setup.sizes.log ≡ length log
-        → came_to end (round st'.registers memory' stack' log') ≡ step kind table setup fuel (round st.registers memory stack log)
-    pub still : (table : Table L) → faithful policy table → faithful policy' table
-    -- An end changes nothing; an operation is done with fuel only.
-    pub ends : end ≢ None → round st'.registers memory' stack' log' ≡ round st.registers memory stack log
-    pub fuelled : end ≡ None → 0 < fuel
-
-  -- The steps of a go.
-  pub record Runs (st' : Running L) (ran : Ran) : Type 0 where
-    pub comes_to : (table : Table L) → faithful policy table
-        → (setup : Setup L) → setup.program ≡ program → setup.sizes.stack ≡ length stack → setup.sizes.log ≡ length log
-        → run_steps kind setup table fuel (round st.registers memory stack log) ≡ record { station = ended ran.end (round st'.registers memory' stack' log'); steps = ran.steps }
-    pub still : (table : Table L) → faithful policy table → faithful policy' table
+-- The steps of a go: over every table that the policy is true to they are those that are defined.
+abbrev pub Runs : {P L : Type 0} → Policy P L → Kind L → P → Contents L → Contents L → ℕ → Running L → Running L → End × ℕ → Type 0
+Runs {P} {L} policy kind before parts parts' fuel st st' ran = (table : Table L) → policy.faithful before table
+    → run_steps kind (made_of parts) table fuel (round st.registers parts)
+    ≡ record { station = ended ran.0 (round st'.registers parts'); steps = ran.1 }

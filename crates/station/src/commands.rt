@@ -1,26 +1,27 @@
 // The question for the next command, which every state takes, once for all of them.
-ghost use Rattle.std.specs.Prelude.{◌≡◌, ◌≤◌, take, drop};
-ghost use Rattle.machine.specs.Stations.{Station as StationD, commands_of, first_below as first_below_from};
-ghost use Rattle.station.specs.Calls.{Asks};
+ghost use Rattle.std.specs.Prelude.{◌≡◌, ◌≤◌, drop};
+ghost use Rattle.machine.specs.Stations.{first_below as first_below_from};
+ghost use Rattle.station.specs.Calls.{TellsNext};
 
 use crate::lengths::check_length;
 use labels::Label;
 use machine::{Labelled, Part, Refusal, Sizes};
+use steps::Window;
 
-// The place in the log of the first command, from a place on, that is at or below the clearance, of a station with so many
-// commands.
+// The place in the log of the first command, from a place on, that is at or below the clearance, of a station with this
+// window over its log.
 pub fn next_command<L: Label>(
     sizes: Sizes,
-    commands: usize,
+    window: Window,
     log: &[Labelled<L>],
     from: usize,
     clearance: L,
 ) -> Result<Option<usize>, Refusal>
-    requires { commands ≤ sizes.log }
-    ensures { (st : StationD L) → commands_of st ≡ take commands log.now → Asks L.Label.kind sizes st log.now from clearance result }
+    requires { window.count ≤ sizes.log }
+    ensures { TellsNext L.Label.kind sizes window log.now from clearance result }
 {
     check_length(Part::Log, log.len(), sizes.log)?;
-    Ok(first_below(&log[..commands], from, clearance))
+    Ok(first_below(window.commands(log), from, clearance))
 }
 
 // The place of the first of these commands, from a place on, that is at or below the clearance.

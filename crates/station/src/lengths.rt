@@ -1,19 +1,11 @@
 // How long the parts handed in are: within their limits when a station is made, and the same at each call after.
 ghost use Rattle.std.specs.Prelude.{◌≡◌, [], ◌∷◌, ◌==◌};
-ghost use Rattle.machine.specs.Numbers.{first_wrong, outside_limits, within};
-ghost use Rattle.machine.specs.Stations.{not_as_made};
+ghost use Rattle.machine.specs.Numbers.{all_parts, first_wrong, most, outside_limits, size_of, within};
+ghost use Rattle.machine.specs.Steps.{contents, lengths};
 ghost use Rattle.machine.specs.declared.answers.Refusal.TheVariants.{Limits, Length};
-ghost use Rattle.station.specs.Lengths.{lengths, checked, CellThere};
+ghost use Rattle.station.specs.Lengths.{checked, CellThere};
 
 use machine::{Entry, Labelled, Operation, Part, Refusal, Sizes};
-
-const MOST_OPERATIONS: usize = 4096;
-
-const MOST_CELLS: usize = 1024;
-
-const MOST_ENTRIES: usize = 1024;
-
-const MOST_COMMANDS: usize = 4096;
 
 // How long the four parts handed in are.
 pub fn sizes_of<L>(
@@ -22,7 +14,7 @@ pub fn sizes_of<L>(
     stack: &[Entry<L>],
     log: &[Labelled<L>],
 ) -> Sizes
-    ensures { result ≡ lengths program.now memory.now stack.now log.now }
+    ensures { result ≡ lengths (contents program.now memory.now stack.now log.now) }
 {
     Sizes {
         program: program.len(),
@@ -32,11 +24,11 @@ pub fn sizes_of<L>(
     }
 }
 
-// Refuses a part with 1 unless it has at least one element and at most so many.
-fn check_limit(part: Part, len: usize, most: usize) -> Result<(), Refusal>
-    ensures { result ≡ checked Limits (first_wrong ((part, within most len) ∷ [])) }
+// Refuses a part with 1 unless it has at least one element and at most as many as its limit.
+fn check_limit(part: Part, len: usize) -> Result<(), Refusal>
+    ensures { result ≡ checked Limits (first_wrong (λ p. within (most p) len) (part ∷ [])) }
 {
-    if (1..=most).contains(&len) {
+    if (1..=part.most()).contains(&len) {
         Ok(())
     } else {
         Err(Refusal::Limits(part))
@@ -47,15 +39,15 @@ fn check_limit(part: Part, len: usize, most: usize) -> Result<(), Refusal>
 pub fn check_limits(sizes: Sizes) -> Result<(), Refusal>
     ensures { result ≡ checked Limits (outside_limits sizes) }
 {
-    check_limit(Part::Program, sizes.program, MOST_OPERATIONS)?;
-    check_limit(Part::Memory, sizes.memory, MOST_CELLS)?;
-    check_limit(Part::Stack, sizes.stack, MOST_ENTRIES)?;
-    check_limit(Part::Log, sizes.log, MOST_COMMANDS)
+    check_limit(Part::Program, sizes.program)?;
+    check_limit(Part::Memory, sizes.memory)?;
+    check_limit(Part::Stack, sizes.stack)?;
+    check_limit(Part::Log, sizes.log)
 }
 
 // Refuses a part with 2 unless it is as long as when the station was made.
 pub fn check_length(part: Part, len: usize, made: usize) -> Result<(), Refusal>
-    ensures { result ≡ checked Length (first_wrong ((part, (len == made)) ∷ [])) }
+    ensures { result ≡ checked Length (first_wrong (λ _. (len == made)) (part ∷ [])) }
 {
     if len == made {
         Ok(())
@@ -64,9 +56,9 @@ pub fn check_length(part: Part, len: usize, made: usize) -> Result<(), Refusal>
     }
 }
 
-// Refuses the first part that is not as long as when the station was made.
+// Refuses the first of the four parts that is not as long as when the station was made.
 pub fn check_lengths(sizes: Sizes, made: Sizes) -> Result<(), Refusal>
-    ensures { result ≡ checked Length (not_as_made made sizes) }
+    ensures { result ≡ checked Length (first_wrong (λ part. size_of sizes part == size_of made part) all_parts) }
 {
     check_length(Part::Program, sizes.program, made.program)?;
     check_length(Part::Memory, sizes.memory, made.memory)?;

@@ -7,7 +7,8 @@ mod idle;
 mod lengths;
 mod running;
 mod shut;
-mod states;
 
-pub use running::{Gone, Refused};
-pub use states::{Idle, Running, Shut, Station};
+pub use any::Station;
+pub use idle::Idle;
+pub use running::{Gone, Refused, Running};
+pub use shut::Shut;

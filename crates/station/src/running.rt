@@ -1,42 +1,41 @@
-// Goes: steps of a running station until its round finishes, is stopped or has no fuel left.
-ghost use Rattle.std.specs.Prelude.{◌≡◌, ◌≤◌};
+// A station in a round: a go takes steps until its round finishes, is stopped or has no fuel left.
+ghost use Rattle.std.specs.Prelude.{◌≡◌, ◌≤◌, None};
+ghost use Rattle.machine.specs.Numbers.{outside_limits};
 
+use crate::any::Station;
 use crate::commands::next_command;
+use crate::idle::Idle;
 use crate::lengths::{check_lengths, sizes_of};
-use crate::states::{Idle, Running, Shut, Station};
+use crate::shut::Shut;
 use labels::Label;
-use machine::{Entry, Labelled, Operation, Refusal, Stop};
+use machine::{End, Entry, Labelled, Operation, Refusal, Sizes};
 use rules::Policy;
 use std::marker::PhantomData;
-use steps::{Outcome, Registers};
+use steps::Registers;
 
-// What a go that was not refused leaves: the station, idle, running or shut, and the steps that it took.
+/// A station in a round: it takes goes. It holds how long its parts were when it was made, and the registers of the
+/// round; the parts are lent at each call.
+#[derive(Debug, Drop)]
+pub struct Running<L> {
+    pub(crate) sizes: Sizes,
+    pub(crate) registers: Registers<L>,
+    pub ghost within_limits: { outside_limits sizes ≡ None },
+    pub ghost stack_holds: { registers.depth ≤ sizes.stack },
+    pub ghost log_holds: { registers.window.count ≤ sizes.log },
+}
+
+/// What a go that was not refused leaves: the station, idle, running or shut, and the steps that it took.
 #[derive(Debug, Drop)]
 pub struct Gone<L> {
     pub station: Station<L>,
     pub steps: u32,
 }
 
-// A go that was refused: why, and the running station, as it was.
+/// A go that was refused: why, and the running station, as it was.
 #[derive(Debug, Drop)]
 pub struct Refused<L> {
     pub why: Refusal,
     pub station: Running<L>,
-}
-
-// Why a go takes no further step.
-#[derive(Clone, Copy, Debug, PartialEq, Eq)]
-enum End {
-    Finished,
-    OutOfFuel,
-    Stopped(Stop),
-}
-
-// What the steps of a go came to, and how many there were.
-#[derive(Clone, Copy, Debug, PartialEq, Eq)]
-struct Ran {
-    end: End,
-    steps: u32,
 }
 
 // The same registers, taken field by field: a copy of the whole would carry the bytes between the fields through every step.
@@ -48,28 +47,29 @@ fn by_fields<L: Copy>(registers: Registers<L>) -> Registers<L>
         pc,
         pc_label,
         depth,
-        commands,
+        window,
     } = registers;
     Registers {
         pc,
         pc_label,
         depth,
-        commands,
+        window,
     }
 }
 
 impl<L: Label> Running<L> {
-    ghost use Rattle.std.specs.Prelude.{◌+◌, List, length};
-    ghost use Rattle.station.specs.Lengths.{lengths};
+    ghost use Rattle.std.specs.Prelude.{◌≡◌, ◌<◌, ◌+◌, IsOk, OnErr};
+    ghost use Rattle.machine.specs.Stations.{found};
+    ghost use Rattle.machine.specs.Steps.{contents, lengths, step};
+    ghost use Rattle.machine.specs.declared.calls.Call.TheVariants.{NextCommand};
+    ghost use Rattle.steps.specs.Operations.{AtMost, StaysTrue, Steps, with_log};
+    ghost use Rattle.station.specs.Calls.{Serves, answered};
     ghost use Rattle.station.specs.Goes.{Goes};
-    ghost use Rattle.station.specs.Turns.{Turns, Runs, Rests, ended};
-    ghost use Rattle.station.specs.Calls.{Asks};
-    ghost use Rattle.station.specs.Views.{running_with, station_with, made_sizes};
-    ghost use Rattle.steps.specs.Operations.{round, AtMost, AtMostOnce};
-    ghost use Rattle.machine.specs.declared.parts.Entry.{Entry as EntryD};
-    ghost use Rattle.machine.specs.declared.parts.Labelled.{Labelled as LabelledD};
+    ghost use Rattle.station.specs.Turns.{Runs, Settles, advanced};
+    ghost use Rattle.station.specs.Views.{running_with, made_sizes};
 
-    // Runs with so much fuel, if every part is as long as when the station was made. Refused, it gives the station back.
+    /// Takes steps with so much fuel. Refused for the first part that is not as long as when the station was made; it
+    /// then gives the station back and has changed nothing.
     pub fn go<P: Policy<L>>(
         self,
         program: &[Operation<L>],
@@ -79,32 +79,39 @@ impl<L: Label> Running<L> {
         policy: &mut P,
         fuel: u32,
     ) -> Result<Gone<L>, Refused<L>>
-        ensures { Goes L.Label.kind P.Policy.faithful P.Policy.asked policy.old policy.new program.now memory.old memory.new stack.old stack.new log.old log.new fuel self result }
+        ensures { Goes P.Policy policy.old policy.new L.Label.kind
+            (contents program.now memory.old stack.old log.old)
+            (contents program.now memory.new stack.new log.new)
+            fuel self result }
     {
         if let Err(why) = check_lengths(sizes_of(program, memory, stack, log), self.sizes) {
             return Err(Refused { why, station: self });
         }
         let mut station = self;
-        let Ran { end, steps } = station.run(program, memory, stack, log, policy, fuel);
+        let (end, steps) = station.run(program, memory, stack, log, policy, fuel);
         Ok(Gone {
             station: station.settle(end),
             steps,
         })
     }
 
-    // The place in the log of the first command, from a place on, that is at or below the clearance.
+    /// The place in the log of the first command, from a place on, that is at or below the clearance. Refused for a log
+    /// of another length than when the station was made.
     pub fn next_command(
         &self,
         log: &[Labelled<L>],
         from: usize,
         clearance: L,
     ) -> Result<Option<usize>, Refusal>
-        ensures { (memory : List (LabelledD L)) (stack : List (EntryD L)) → Asks L.Label.kind self.now.sizes (running_with self.now memory stack log.now) log.now from clearance result }
+        ensures { Serves L.Label.kind self.now.sizes (NextCommand from clearance)
+            (running_with self.now) (with_log log.now)
+            (running_with self.now) (with_log log.now)
+            (answered found result) }
     {
-        next_command(self.sizes, self.registers.commands, log, from, clearance)
+        next_command(self.sizes, self.registers.window, log, from, clearance)
     }
 
-    // Takes steps until one comes to an end.
+    // Takes steps until one comes to an end: the end, and how many steps there were.
     fn run<P: Policy<L>>(
         &mut self,
         program: &[Operation<L>],
@@ -113,42 +120,29 @@ impl<L: Label> Running<L> {
         log: &mut [Labelled<L>],
         policy: &mut P,
         fuel: u32,
-    ) -> Ran
-        requires as_made { self.old.sizes ≡ lengths program.now memory.old stack.old log.old }
-        ensures runs { Runs L.Label.kind P.Policy.faithful policy.old policy.new program.now memory.old memory.new stack.old stack.new log.old log.new fuel self.old self.new result }
-        ensures asks { AtMost P.Policy.asked (result.steps + 1) policy.old policy.new }
+    ) -> (End, u32)
+        requires as_made { self.old.sizes ≡ lengths (contents program.now memory.old stack.old log.old) }
+        ensures runs { Runs P.Policy L.Label.kind policy.old
+            (contents program.now memory.old stack.old log.old)
+            (contents program.now memory.new stack.new log.new)
+            fuel self.old self.new result }
+        ensures still { StaysTrue P.Policy policy.old policy.new }
+        ensures asks { AtMost P.Policy (result.1 + 1) policy.old policy.new }
         ensures sizes { self.new.sizes ≡ self.old.sizes }
     {
         let mut left = fuel;
         while left > 0 {
-            if let Some(end) = self.step(program, memory, stack, log, policy, left) {
-                return Ran {
-                    end,
-                    steps: fuel - left,
-                };
+            if let Err(end) = self.advance(program, memory, stack, log, policy, left) {
+                return (end, fuel - left);
             }
             left -= 1;
         }
-        Ran {
-            end: self.wait(program),
-            steps: fuel,
-        }
+        (self.registers.step_without_fuel(program), fuel)
     }
 
-    // The end that a step with no fuel left comes to.
-    fn wait(&self, program: &[Operation<L>]) -> End
-        requires program_fits { length program.now ≤ 4096 }
-        ensures { Rests L.Label.kind program.now self.now result }
-    {
-        match self.registers.step_without_fuel(program) {
-            Ok(Outcome::Finished) => End::Finished,
-            Ok(_) => End::OutOfFuel,
-            Err(stop) => End::Stopped(stop),
-        }
-    }
-
-    // Takes one step, which puts the registers after it in place of these, or comes to an end and leaves all as it was.
-    fn step<P: Policy<L>>(
+    // Takes one step, and stands after it, or where it stood if that is an end.
+    #[inline(always)]
+    fn advance<P: Policy<L>>(
         &mut self,
         program: &[Operation<L>],
         memory: &mut [Labelled<L>],
@@ -156,38 +150,36 @@ impl<L: Label> Running<L> {
         log: &mut [Labelled<L>],
         policy: &mut P,
         fuel: u32,
-    ) -> Option<End>
-        requires as_made { self.old.sizes ≡ lengths program.now memory.old stack.old log.old }
-        ensures turns { Turns L.Label.kind P.Policy.faithful policy.old policy.new program.now memory.old memory.new stack.old stack.new log.old log.new fuel self.old self.new result }
-        ensures asks { AtMostOnce P.Policy.asked policy.old policy.new (λ answer. Unit {0}) }
+    ) -> Result<(), End>
+        requires as_made { self.old.sizes ≡ lengths (contents program.now memory.old stack.old log.old) }
+        ensures steps { Steps P.Policy policy.old policy.new
+            (contents program.now memory.old stack.old log.old)
+            (contents program.now memory.new stack.new log.new)
+            self.old.registers (advanced result self.new)
+            (λ table setup. step L.Label.kind table setup fuel) }
+        ensures fuelled { IsOk result → 0 < fuel }
+        ensures kept { OnErr result (self.new ≡ self.old) }
         ensures sizes { self.new.sizes ≡ self.old.sizes }
     {
-        match self
+        let registers = self
             .registers
-            .step(program, memory, stack, log, policy, fuel)
-        {
-            Ok(Outcome::Done(registers)) => {
-                *self = Running {
-                    sizes: self.sizes,
-                    registers: by_fields(registers),
-                };
-                None
-            }
-            Ok(Outcome::Finished) => Some(End::Finished),
-            Ok(Outcome::Later) => Some(End::OutOfFuel),
-            Err(stop) => Some(End::Stopped(stop)),
-        }
+            .step(program, memory, stack, log, policy, fuel)?;
+        *self = Running {
+            sizes: self.sizes,
+            registers: by_fields(registers),
+        };
+        Ok(())
     }
 
     // The station after a go that ended so.
     fn settle(self, end: End) -> Station<L>
-        ensures settled { (memory log : List (LabelledD L)) (stack : List (EntryD L)) → station_with result memory stack log ≡ ended end (round self.registers memory stack log) }
+        ensures settled { Settles self end result }
         ensures sizes { made_sizes result ≡ self.sizes }
     {
         match end {
             End::Finished => Station::Idle(Idle {
                 sizes: self.sizes,
-                commands: self.registers.commands,
+                window: self.registers.window,
                 labels: PhantomData,
             }),
             End::OutOfFuel => Station::Running(Running {
@@ -196,7 +188,7 @@ impl<L: Label> Running<L> {
             }),
             End::Stopped(stop) => Station::Shut(Shut {
                 sizes: self.sizes,
-                commands: self.registers.commands,
+                window: self.registers.window,
                 stop,
                 place: self.registers.pc,
                 labels: PhantomData,
@@ -206,7 +198,9 @@ impl<L: Label> Running<L> {
 }
 
 impl<L: Copy> Running<L> {
-    // The place and label of the program counter, and how many entries of the stack and commands of the log are in use.
+    ghost use Rattle.std.specs.Prelude.{◌≡◌};
+
+    /// The place and label of the program counter, how many entries of the stack are in use, and the window over the log.
     pub fn registers(&self) -> Registers<L>
         ensures { result ≡ self.now.registers }
     {

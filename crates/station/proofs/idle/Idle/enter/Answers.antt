@@ -1,7 +1,8 @@
+-- An enter, by whether there is the cell.
 use Rattle.std.proofs.Common.{Err, ap, ◌∙◌}
 use Rattle.std.proofs.lemmas.Result.{err_from_is_err_and}
 use Rattle.station.proofs.Cells.{none_to_enter, entered}
-use Rattle.station.proofs.states.Idle.enter.Goals as goal
+use Rattle.station.proofs.idle.Idle.enter.Goals as goal
 
 pub returns-in_err-check_cell : goal.returns-in_err-check_cell
 returns-in_err-check_cell g c =

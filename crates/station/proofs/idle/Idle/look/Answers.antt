@@ -1,7 +1,8 @@
+-- A look, by whether there is the cell and who may see it.
 use Rattle.std.proofs.Common.{Err, ap, ◌∙◌}
 use Rattle.std.proofs.lemmas.Result.{err_from_is_err_and}
 use Rattle.station.proofs.Cells.{none_to_see, shown, hidden}
-use Rattle.station.proofs.states.Idle.look.Goals as goal
+use Rattle.station.proofs.idle.Idle.look.Goals as goal
 
 pub returns-in_err-check_cell : goal.returns-in_err-check_cell
 returns-in_err-check_cell g c =
