@@ -1,3 +1,3 @@
 pub mod Handing
 pub mod Offering
-pub mod Rehearsing
+pub mod Vectors

@@ -1,23 +1,19 @@
--- Rounds that are stepped on copies. Assumes nothing.
+-- Rounds that are stepped on copies.
 use Rattle.std.specs.Prelude.{◌≡◌, Some, None, Ok, Err, Option, Result}
 use Rattle.machine.specs.Stations.{Running, running}
-use Rattle.machine.specs.declared.answers.Stop.{Stop}
+use Rattle.machine.specs.declared.answers.End.{End}
 use Rattle.steps.specs.Operations.{round}
 use Rattle.steps.specs.declared.registers.Registers.{Registers}
-use Rattle.steps.specs.declared.step.Outcome.{Outcome}
-use Rattle.steps.specs.declared.step.Outcome.TheVariants.{Finished, Later, Done}
 use Rattle.sites.specs.Calls.{Sited}
+use Rattle.sites.specs.Sites.{held}
 use Rattle.sites.specs.declared.rehearsal.Rehearsal.{Rehearsal}
 
 -- After a step that was done the round stands where the step left it, else where it stood.
-abbrev pub Follows : {L : Type 0} → Registers L → Registers L → Result (Outcome L) Stop → Type 0
-Follows before after (Ok Finished) = after ≡ before
-Follows before after (Ok Later) = after ≡ before
-Follows before after (Ok (Done registers)) = after ≡ registers
-Follows before after (Err stop) = after ≡ before
+abbrev pub Follows : {L : Type 0} → Registers L → Registers L → Result (Registers L) End → Type 0
+Follows before after (Ok registers) = after ≡ registers
+Follows before after (Err end) = after ≡ before
 
 -- A rehearsal stands where the station does, if that runs a round.
 abbrev pub Rehearses : {L : Type 0} → Sited L → Option (Rehearsal L) → Type 0
 Rehearses site None = Running site.station → ⊥
-Rehearses site (Some r) = (site.setup.program ≡ r.parts.program.items)
-    × (site.station ≡ running (round r.registers r.parts.memory.items r.parts.stack.items r.parts.log.items))
+Rehearses site (Some r) = (site.setup.program ≡ r.parts.program.items) × (site.station ≡ running (round r.registers (held r.parts)))

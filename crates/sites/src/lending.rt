@@ -1,23 +1,20 @@
 // The parts of a station, and how they are lent to it.
-ghost use Rattle.std.specs.Prelude.{◌≡◌, ◌↔◌, IfOk, IsTrue, List, None};
-ghost use Rattle.rules.specs.Tables.{Table};
-ghost use Rattle.machine.specs.Stations.{Takes, misfit};
-ghost use Rattle.machine.specs.declared.parts.Entry.{Entry as EntryD};
-ghost use Rattle.machine.specs.declared.parts.Labelled.{Labelled as LabelledD};
-ghost use Rattle.machine.specs.declared.parts.Sizes.{Sizes as SizesD};
-ghost use Rattle.station.specs.Views.{made_sizes, station_with};
-ghost use Rattle.sites.specs.Calls.{StandsFor, meant};
-ghost use Rattle.sites.specs.Sites.{LeavesUntaken, Hands, Offers, Unasked, Untouched, sizes_of};
-ghost use Rattle.sites.specs.declared.calls.Call.TheVariants.{Command, Enter, Go, Look, Start};
+ghost use Rattle.std.specs.Prelude.{◌≡◌, ◌↔◌, IfOk, IsTrue, None, ⊤};
+ghost use Rattle.machine.specs.Calls.{misfit};
+ghost use Rattle.machine.specs.Steps.{contents};
+ghost use Rattle.machine.specs.declared.calls.Call.TheVariants.{NextCommand, Enter, Go, Look, Start};
+ghost use Rattle.steps.specs.Operations.{StaysTrue};
+ghost use Rattle.station.specs.Views.{made_sizes};
+ghost use Rattle.sites.specs.Sites.{LeavesUntaken, Hands, Offers, Unasked, Untouched, held, sizes_of};
 
-use crate::{Call, Reply, State};
+use crate::Reply;
 use labels::Label;
-use machine::{Entry, Labelled, Operation};
+use machine::{Call, Entry, Labelled, Operation};
 use rules::Policy;
 use station::{Gone, Refused, Station};
 use std::alloc::{AllocError, Global};
 
-// The four parts of a station.
+/// The four parts of a station.
 #[derive(Debug, Drop)]
 pub struct Parts<L> {
     pub program: Vec<Operation<L>>,
@@ -27,7 +24,8 @@ pub struct Parts<L> {
 }
 
 impl<L: Label> Parts<L> {
-    // Hands these parts, which are others', to a station with parts of its own: the station, which has not changed, and the reply.
+    // Hands these parts, which are others', to a station with parts of its own: the station, which has not changed, and
+    // the reply.
     pub(crate) fn offer<P: Policy<L>>(
         &mut self,
         own: &Parts<L>,
@@ -36,11 +34,11 @@ impl<L: Label> Parts<L> {
         call: Call<L>,
     ) -> (Station<L>, Reply<L>)
         requires { made_sizes station ≡ sizes_of own.now }
-        ensures offers { Offers own.now station (sizes_of self.old) call result }
+        ensures offers { Offers (held own.now) station (sizes_of self.old) call result }
         ensures untouched { Untouched self.old self.new }
         ensures policy { policy.new ≡ policy.old }
     {
-        if !takes(&station, call) {
+        if !call.is_taken_in(station.state()) {
             return declined(station);
         }
         if self.pass_for(own, call) {
@@ -51,7 +49,7 @@ impl<L: Label> Parts<L> {
 
     // Whether the parts that a call hands in are as long as the station's own.
     fn pass_for(&self, own: &Parts<L>, call: Call<L>) -> bool
-        ensures { (table : Table L) → IsTrue result ↔ (misfit (sizes_of own.now) (meant (sizes_of self.now) table call) ≡ None) }
+        ensures { IsTrue result ↔ (misfit (sizes_of own.now) call (sizes_of self.now) ≡ None) }
     {
         let program = self.program.len() == own.program.len();
         let memory = self.memory.len() == own.memory.len();
@@ -61,7 +59,7 @@ impl<L: Label> Parts<L> {
             Call::Enter { .. } | Call::Look { .. } => memory,
             Call::Start => true,
             Call::Go { .. } => program && memory && stack && log,
-            Call::Command { .. } => log,
+            Call::NextCommand { .. } => log,
         }
     }
 
@@ -72,9 +70,9 @@ impl<L: Label> Parts<L> {
         station: Station<L>,
         call: Call<L>,
     ) -> (Station<L>, Reply<L>)
-        ensures hands { Hands L.Label.kind (StandsFor (P.Policy.faithful policy.old) call) self.old self.new station call result }
-        ensures still { (table : Table L) → P.Policy.faithful policy.old table → P.Policy.faithful policy.new table }
-        ensures unasked { Unasked self.old station call → policy.new ≡ policy.old }
+        ensures hands { Hands L.Label.kind (P.Policy.faithful policy.old) (held self.old) (held self.new) station call result }
+        ensures still { StaysTrue P.Policy policy.old policy.new }
+        ensures unasked { Unasked (held self.old) station call → policy.new ≡ policy.old }
     {
         match call {
             Call::Enter { cell, number } => self.enter(station, cell, number),
@@ -84,7 +82,7 @@ impl<L: Label> Parts<L> {
             }
             Call::Start => self.start(station),
             Call::Go { fuel } => self.go(policy, station, fuel),
-            Call::Command { from, clearance } => {
+            Call::NextCommand { from, clearance } => {
                 let reply = self.next_command(&station, from, clearance);
                 (station, reply)
             }
@@ -97,7 +95,7 @@ impl<L: Label> Parts<L> {
         cell: usize,
         number: Labelled<L>,
     ) -> (Station<L>, Reply<L>)
-        ensures { Hands L.Label.kind (λ _. Unit {0}) self.old self.new station (Enter cell number) result }
+        ensures { Hands L.Label.kind (λ _. ⊤) (held self.old) (held self.new) station (Enter cell number) result }
     {
         match station {
             Station::Idle(idle) => {
@@ -111,7 +109,8 @@ impl<L: Label> Parts<L> {
     }
 
     pub(crate) fn look(&self, station: &Station<L>, cell: usize, clearance: L) -> Reply<L>
-        ensures { Hands L.Label.kind (λ _. Unit {0}) self.now self.now station.now (Look cell clearance) (station.now, result) }
+        ensures { Hands L.Label.kind (λ _. ⊤) (held self.now) (held self.now) station.now (Look cell clearance)
+            (station.now, result) }
     {
         match station {
             Station::Idle(idle) => {
@@ -120,12 +119,12 @@ impl<L: Label> Parts<L> {
                     Err(why) => Reply::Refused(why),
                 }
             }
-            other => Reply::NotTaken(State::from(other)),
+            other => Reply::NotTaken(other.state()),
         }
     }
 
     fn start(&self, station: Station<L>) -> (Station<L>, Reply<L>)
-        ensures { Hands L.Label.kind (λ _. Unit {0}) self.now self.now station Start result }
+        ensures { Hands L.Label.kind (λ _. ⊤) (held self.now) (held self.now) station Start result }
     {
         match station {
             Station::Idle(idle) => (Station::Running(idle.start()), Reply::Started),
@@ -139,9 +138,9 @@ impl<L: Label> Parts<L> {
         station: Station<L>,
         fuel: u32,
     ) -> (Station<L>, Reply<L>)
-        ensures hands { Hands L.Label.kind (P.Policy.faithful policy.old) self.old self.new station (Go fuel) result }
-        ensures still { (table : Table L) → P.Policy.faithful policy.old table → P.Policy.faithful policy.new table }
-        ensures unasked { Unasked self.old station (Go fuel) → policy.new ≡ policy.old }
+        ensures hands { Hands L.Label.kind (P.Policy.faithful policy.old) (held self.old) (held self.new) station (Go fuel) result }
+        ensures still { StaysTrue P.Policy policy.old policy.new }
+        ensures unasked { Unasked (held self.old) station (Go fuel) → policy.new ≡ policy.old }
     {
         match station {
             Station::Running(running) => {
@@ -154,7 +153,7 @@ impl<L: Label> Parts<L> {
                     fuel,
                 ) {
                     Ok(Gone { station, steps }) => {
-                        let state = State::from(&station);
+                        let state = station.state();
                         (station, Reply::Gone { steps, state })
                     }
                     Err(Refused { why, station }) => {
@@ -167,7 +166,8 @@ impl<L: Label> Parts<L> {
     }
 
     pub(crate) fn next_command(&self, station: &Station<L>, from: usize, clearance: L) -> Reply<L>
-        ensures { Hands L.Label.kind (λ _. Unit {0}) self.now self.now station.now (Command from clearance) (station.now, result) }
+        ensures { Hands L.Label.kind (λ _. ⊤) (held self.now) (held self.now) station.now (NextCommand from clearance)
+            (station.now, result) }
     {
         match station.next_command(self.log.as_slice(), from, clearance) {
             Ok(place) => Reply::Found(place),
@@ -177,7 +177,7 @@ impl<L: Label> Parts<L> {
 }
 
 impl<L: Copy> Parts<L> {
-    // A copy of the parts.
+    /// A copy of the parts.
     pub fn copied(&self, heap: Global) -> Result<Parts<L>, AllocError>
         ensures { IfOk result (Untouched self.now) }
     {
@@ -196,21 +196,10 @@ fn copied<T: Copy>(heap: Global, list: &[T]) -> Result<Vec<T>, AllocError>
     list.iter().copied().collect(heap)
 }
 
-// Whether the station's state takes a call.
-fn takes<L: Label>(station: &Station<L>, call: Call<L>) -> bool
-    ensures { (memory log : List (LabelledD L)) (stack : List (EntryD L)) (lens : SizesD) (table : Table L) → IsTrue result ↔ Takes (station_with station.now memory stack log) (meant lens table call) }
-{
-    match call {
-        Call::Enter { .. } | Call::Look { .. } | Call::Start => matches!(station, Station::Idle(_)),
-        Call::Go { .. } => matches!(station, Station::Running(_)),
-        Call::Command { .. } => true,
-    }
-}
-
 // The station as it was, and the reply that its state takes no such call.
 fn declined<L>(station: Station<L>) -> (Station<L>, Reply<L>)
     ensures { LeavesUntaken station result }
 {
-    let state = State::from(&station);
+    let state = station.state();
     (station, Reply::NotTaken(state))
 }

@@ -1,12 +1,12 @@
-// Stations where they are installed, each with its own parts and its policy, and calls and replies as they are written.
+// Stations where they are installed, each with its own parts and its policy, and replies as they are written.
 #![tactic(auto)]
 
-mod calls;
 mod lending;
 mod rehearsal;
+mod replies;
 mod site;
 
-pub use calls::{Answered, Call, Making, Reason, Reply, State, Written};
 pub use lending::Parts;
 pub use rehearsal::Rehearsal;
+pub use replies::{Answered, Making, Reply};
 pub use site::Site;

@@ -1,23 +1,23 @@
 // A station where it is installed, with the parts and the policy that it is lent at each call.
-ghost use Rattle.std.specs.Prelude.{◌≡◌, ◌↔◌, IfOk, IsTrue, length};
-ghost use Rattle.rules.specs.Tables.{Table};
-ghost use Rattle.machine.specs.Stations.{Idle as IsIdle, commands_of, memory_of};
+ghost use Rattle.std.specs.Prelude.{◌≡◌, ◌↔◌, IfOk, IsTrue, length, ⊤};
+ghost use Rattle.machine.specs.Stations.{Idle as IsIdle, commands_of, memory_of, state_of};
+ghost use Rattle.machine.specs.declared.calls.Call.TheVariants.{NextCommand, Look};
+ghost use Rattle.steps.specs.Operations.{StaysTrue};
 ghost use Rattle.station.specs.Views.{made_sizes};
-ghost use Rattle.sites.specs.Calls.{Asking, StandsFor, Does, Refuses, state_of};
+ghost use Rattle.sites.specs.Calls.{Asking, Does, Refuses};
 ghost use Rattle.sites.specs.Rehearsals.{Rehearses};
-ghost use Rattle.sites.specs.Sites.{Installed, Makes, Untouched, sited, sizes_of};
-ghost use Rattle.sites.specs.declared.calls.Call.TheVariants.{Command, Look};
+ghost use Rattle.sites.specs.Sites.{Installed, Installs, Untouched, held, sited, sizes_of};
 
-use crate::{Call, Parts, Rehearsal, Reply, State};
+use crate::{Parts, Rehearsal, Reply};
 use labels::Label;
-use machine::{Labelled, Operation, Refusal};
+use machine::{Call, Labelled, Operation, Refusal, State};
 use rules::Policy;
 use station::{Idle, Station};
 use std::alloc::{AllocError, Global};
 use std::marker::Model;
 
-// Every call is lent the station's own parts, as the call before left them, and the station's policy. Contracts see the station with
-// its parts as the definitions have it, and the policy.
+/// A station with its own parts and its policy. Every call is lent the station's own parts, as the call before left them,
+/// and the station's policy. Contracts see the station with its parts as the definitions have it, and the policy.
 #[derive(Drop)]
 pub struct Site<P, L> {
     station: Station<L>,
@@ -28,15 +28,15 @@ pub struct Site<P, L> {
 impl<P, L> Model for Site<P, L> {
     ghost Value = { Installed P L };
 
-    ghost view = { λ s. record { sited = sited s.station s.parts; policy = s.policy } };
+    ghost view = { λ s. record { sited = sited s.station (held s.parts); policy = s.policy } };
 
     ghost invariant = { λ s. made_sizes s.station ≡ sizes_of s.parts };
 }
 
 impl<P: Policy<L> + Drop, L: Label> Site<P, L> {
-    // Makes a station of these parts.
+    /// Makes a station of these parts. Refused if one of them is outside its limits.
     pub fn make(parts: Parts<L>, policy: P) -> Result<Site<P, L>, Refusal>
-        ensures { Makes parts policy result }
+        ensures { Installs parts policy result }
     {
         let idle = Idle::make(
             parts.program.as_slice(),
@@ -51,10 +51,11 @@ impl<P: Policy<L> + Drop, L: Label> Site<P, L> {
         })
     }
 
-    // Makes a call on the station: the site as the call leaves it, and the reply.
+    /// Makes a call on the station: the site as the call leaves it, and the reply. A call that the state does not take
+    /// changes nothing, and the reply says so.
     pub fn call(self, call: Call<L>) -> (Site<P, L>, Reply<L>)
-        ensures does { Does L.Label.kind (StandsFor (P.Policy.faithful self.policy) call) self.sited call result.0.sited result.1 }
-        ensures still { (table : Table L) → P.Policy.faithful self.policy table → P.Policy.faithful result.0.policy table }
+        ensures does { Does L.Label.kind (P.Policy.faithful self.policy) self.sited call result.0.sited result.1 }
+        ensures still { StaysTrue P.Policy self.policy result.0.policy }
         ensures unasked { (Asking self.sited.station call → ⊥) → result.0.policy ≡ self.policy }
     {
         let Site {
@@ -71,7 +72,8 @@ impl<P: Policy<L> + Drop, L: Label> Site<P, L> {
         (site, reply)
     }
 
-    // Makes a call that hands in others' parts in place of the station's own: the site, which has not changed, and the reply.
+    /// Makes a call that hands in others' parts in place of the station's own: the site, which has not changed, and the
+    /// reply. It is made only to be refused for a part of another length.
     pub fn call_with(self, others: &mut Parts<L>, call: Call<L>) -> (Site<P, L>, Reply<L>)
         ensures refuses { Refuses self.sited (sizes_of others.old) call result.0.sited result.1 }
         ensures untouched { Untouched others.old others.new }
@@ -93,21 +95,21 @@ impl<P: Policy<L> + Drop, L: Label> Site<P, L> {
 }
 
 impl<P, L: Label> Site<P, L> {
-    // Looks at a cell, which changes nothing.
+    /// Looks at a cell, which changes nothing.
     pub fn look(&self, cell: usize, clearance: L) -> Reply<L>
-        ensures { Does L.Label.kind (λ _. Unit {0}) self.now.sited (Look cell clearance) self.now.sited result }
+        ensures { Does L.Label.kind (λ _. ⊤) self.now.sited (Look cell clearance) self.now.sited result }
     {
         self.parts.look(&self.station, cell, clearance)
     }
 
-    // Asks for the next command, which changes nothing.
+    /// Asks for the next command, which changes nothing.
     pub fn next_command(&self, from: usize, clearance: L) -> Reply<L>
-        ensures { Does L.Label.kind (λ _. Unit {0}) self.now.sited (Command from clearance) self.now.sited result }
+        ensures { Does L.Label.kind (λ _. ⊤) self.now.sited (NextCommand from clearance) self.now.sited result }
     {
         self.parts.next_command(&self.station, from, clearance)
     }
 
-    // The round of a running station, to be stepped on copies of its parts.
+    /// The round of a running station, to be stepped on copies of its parts, or none if it runs none.
     pub fn rehearse(&self, heap: Global) -> Result<Option<Rehearsal<L>>, AllocError>
         ensures { IfOk result (Rehearses self.now.sited) }
     {
@@ -122,12 +124,14 @@ impl<P, L: Label> Site<P, L> {
 }
 
 impl<P, L> Site<P, L> {
+    /// The station's program.
     pub fn program(&self) -> &[Operation<L>]
         ensures { result.now ≡ self.now.sited.setup.program }
     {
         self.parts.program.as_slice()
     }
 
+    /// The station's memory.
     pub fn memory(&self) -> &[Labelled<L>]
         ensures is { result.now ≡ memory_of self.now.sited.station }
         ensures as_made { length result.now ≡ self.now.sited.setup.sizes.memory }
@@ -135,23 +139,24 @@ impl<P, L> Site<P, L> {
         self.parts.memory.as_slice()
     }
 
-    // The commands so far, the oldest first.
+    /// The commands so far, the oldest first.
     pub fn commands(&self) -> &[Labelled<L>]
         ensures { result.now ≡ commands_of self.now.sited.station }
     {
-        let count = self.station.commands();
-        self.parts.log.as_slice().get(..count).unwrap_or(&[])
+        self.station.window().commands(self.parts.log.as_slice())
     }
 
+    /// Whether the station is idle.
     pub fn is_idle(&self) -> bool
         ensures { IsTrue result ↔ IsIdle self.now.sited.station }
     {
         matches!(self.station, Station::Idle(_))
     }
 
+    /// The state that the station is in.
     pub fn state(&self) -> State
         ensures { result ≡ state_of self.now.sited.station }
     {
-        State::from(&self.station)
+        self.station.state()
     }
 }

@@ -1,9 +1,10 @@
 -- The stations of the code, with the parts lent to them, as the stations that the definitions speak of.
-use Rattle.machine.specs.Stations.{Station, idle, running, shut}
+use Rattle.std.specs.Prelude.{◌≡◌, List}
+use Rattle.machine.specs.Stations.{Station, idle, running, shut, state_of}
 use Rattle.machine.specs.Steps.{Setup, Contents}
+use Rattle.machine.specs.declared.calls.State.{State}
 use Rattle.machine.specs.declared.parts.Operation.{Operation}
 use Rattle.machine.specs.declared.parts.Sizes.{Sizes}
-use Rattle.std.specs.Prelude.{List}
 use Rattle.steps.specs.Operations.{round}
 use Rattle.steps.specs.Windows.{kept}
 use Rattle.steps.specs.declared.window.Window.{Window}
@@ -32,6 +33,10 @@ module _ {L : Type 0} where
   station_with (state.Idle st) parts = idle_with st parts
   station_with (state.Running st) parts = running_with st parts
   station_with (state.Shut st) parts = shut_with st parts
+
+  -- the state that a station is in, whatever its parts hold
+  abbrev pub IsIn : StationCode L → State → Type 0
+  IsIn st told = (parts : Contents L) → told ≡ state_of (station_with st parts)
 
   -- how long the parts were when the station was made
   abbrev pub made_sizes : StationCode L → Sizes

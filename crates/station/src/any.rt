@@ -3,7 +3,7 @@ use crate::idle::Idle;
 use crate::running::Running;
 use crate::shut::Shut;
 use labels::Label;
-use machine::{Labelled, Refusal};
+use machine::{Labelled, Refusal, State};
 use steps::Window;
 
 /// A station in any state. Each state is a type of its own that is moved from call to call, so a call that a state does
@@ -45,7 +45,21 @@ impl<L: Label> Station<L> {
 
 impl<L> Station<L> {
     ghost use Rattle.std.specs.Prelude.{◌≡◌};
-    ghost use Rattle.station.specs.Views.{window_of};
+    ghost use Rattle.station.specs.Views.{window_of, IsIn};
+
+    /// The state that it is in.
+    pub fn state(&self) -> State
+        ensures { IsIn self.now result }
+    {
+        match self {
+            Station::Idle(_) => State::Idle,
+            Station::Running(_) => State::Running,
+            Station::Shut(shut) => State::Shut {
+                stop: shut.stop,
+                place: shut.place,
+            },
+        }
+    }
 
     /// What is in use of the log.
     pub fn window(&self) -> Window

@@ -1,5 +1,6 @@
+-- An enter on an idle station's memory: what it is lent and gives back.
 use Rattle.std.proofs.Common.{Ok, Err, refl, ap, ◌∙◌, length}
-use Rattle.sites.specs.declared.calls.Reply.TheVariants.{Entered, Refused}
+use Rattle.sites.specs.declared.replies.Reply.TheVariants.{Entered, Refused}
 use Rattle.sites.proofs.Handing.{entered}
 use Rattle.sites.proofs.lending.Parts.enter.Goals as goal
 

@@ -1,5 +1,6 @@
+-- A look into an idle station's memory.
 use Rattle.std.proofs.Common.{Ok, Err, refl}
-use Rattle.sites.specs.declared.calls.Reply.TheVariants.{Shown, Refused}
+use Rattle.sites.specs.declared.replies.Reply.TheVariants.{Shown, Refused}
 use Rattle.sites.proofs.Handing.{looked}
 use Rattle.sites.proofs.lending.Parts.look.Goals as goal
 
