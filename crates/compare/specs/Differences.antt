@@ -1,4 +1,4 @@
--- Where two lists first differ. Assumes nothing.
+-- Where two lists first differ.
 use Rattle.std.specs.Prelude.{◌≡◌, ℕ, suc, Bool, List, [], ◌∷◌, take, filter, Some, None, Option}
 use Rattle.std.specs.Borrow.{Bor}
 

@@ -1,18 +1,19 @@
--- What is told of two runs to an observer at a level. Assumes nothing.
+-- What is told of two runs to an observer at a level.
 use Rattle.std.specs.Prelude.{◌≡◌, ◌≢◌, ℕ, ◌<◌, true, List, filter, length, Some, None, Ok, Err, Option}
 use Rattle.labels.specs.Kind.{Kind}
-use Rattle.rules.specs.Tables.{Table, published}
+use Rattle.rules.specs.Tables.{published}
+use Rattle.rules.specs.declared.Policy.{Ghosts as Policy}
 use Rattle.machine.specs.Lists.{Each, OneBegins}
-use Rattle.machine.specs.Observer.{Alike, AlikeOperation, AlikeStations, AlikeCalls, visible}
-use Rattle.machine.specs.Stations.{Answer, Idle, look, answer, commands_of}
+use Rattle.machine.specs.Calls.{lent}
+use Rattle.machine.specs.Observer.{Alike, AlikeOperation, AlikeInput, AlikeStations, AlikeCalls, visible}
+use Rattle.machine.specs.Stations.{Answer, Idle, answer, commands_of}
+use Rattle.machine.specs.declared.calls.Call.TheVariants.{Look}
 use Rattle.machine.specs.declared.parts.Labelled.{Labelled}
 use Rattle.sites.specs.Calls.{Sited}
-use Rattle.sites.specs.Sites.{Makes, Installed}
-use Rattle.sites.specs.declared.calls.Call.{Call}
-use Rattle.sites.specs.declared.calls.Call.TheVariants.{Enter, Start}
+use Rattle.sites.specs.Sites.{Installs, Installed}
 use Rattle.sites.specs.declared.lending.Parts.{Parts}
 use Rattle.compare.specs.Differences.{Breaks}
-use Rattle.compare.specs.Runs.{RunsTo, counts, history}
+use Rattle.compare.specs.Runs.{RunsTo, counts, inputs_of, history}
 use Rattle.compare.specs.declared.reports.Compared.{Compared}
 use Rattle.compare.specs.declared.reports.Looks.{Looks}
 use Rattle.compare.specs.declared.reports.Looks.TheVariants.{NotDue, Same, DifferAt}
@@ -23,17 +24,13 @@ use Rattle.compare.specs.declared.exchanges.Exchange.{Exchange}
 use Rattle.compare.specs.declared.plans.Plan.{Plan}
 
 module _ {L : Type 0} (kind : Kind L) (o : L) where
-  -- Enters and starts are alike if they are the same, except that entered numbers need only be alike.
-  pub data AlikeInput : Call L → Call L → Type 0 where
-    same_start : AlikeInput Start Start
-    alike_enter : {cell : ℕ} {v w : Labelled L} → Alike kind o v w → AlikeInput (Enter cell v) (Enter cell w)
-
+  -- calls of two lists that stand for alike enters and starts
   abbrev pub AlikeExchange : Exchange L → Exchange L → Type 0
-  AlikeExchange e f = AlikeInput e.call f.call
+  AlikeExchange e f = Each (AlikeInput kind o) (inputs_of e) (inputs_of f)
 
-  -- what a look into a station's own memory answers, with the level as the clearance
+  -- what a look into a station's own memory answers, with the level as the clearance (it asks no policy, so any table stands for one)
   abbrev pub look_at : Sited L → ℕ → Answer L
-  look_at site cell = answer kind site.setup site.station (look site.setup.sizes.memory cell o)
+  look_at site cell = answer kind site.setup site.station (lent (Look cell o) site.setup.sizes (λ _. None))
 
   -- Looks are compared where equally many enters and starts count and both stations are idle.
   abbrev pub LooksDue : List (Exchange L) → List (Exchange L) → Sited L → Sited L → Type 0
@@ -74,26 +71,26 @@ SaysAlike report = (report.programs ≡ None) × (report.memories ≡ None) × (
 abbrev pub NothingDiffers : Report → Type 0
 NothingDiffers report = (report.commands ≡ None) × ((cell : ℕ) → report.looks ≢ DifferAt cell)
 
-module _ {P Q L : Type 0} (kind : Kind L) (P_faithful : P → Table L → Type 0) (Q_faithful : Q → Table L → Type 0) (o : L) (one : Plan P L) (two : Plan Q L) where
+module _ {P Q L : Type 0} (kind : Kind L) (p : Policy P L) (q : Policy Q L) (o : L) (one : Plan P L) (two : Plan Q L) where
   -- What comparing two plans comes to.
   pub record Compares (c : Compared P Q L) : Type 0 where
-    pub first : RunsTo kind P_faithful one (Ok c.one)
-    pub second : RunsTo kind Q_faithful two (Ok c.two)
+    pub first : RunsTo kind p one (Ok c.one)
+    pub second : RunsTo kind q two (Ok c.two)
     pub report : Reports kind o one.parts two.parts c.one.exchanges.items c.two.exchanges.items c.one.site.sited c.two.site.sited c.report
 
   -- Under policies that are true to the published rows, for stations and calls that are alike to the observer, nothing differs.
   abbrev pub KeepsSecret : Compared P Q L → Type 0
-  KeepsSecret c = P_faithful one.policy (published kind) → Q_faithful two.policy (published kind)
+  KeepsSecret c = p.faithful one.policy (published kind) → q.faithful two.policy (published kind)
       → AlikeStations kind o (history kind one.parts c.one.exchanges.items) (history kind two.parts c.two.exchanges.items)
       → AlikeCalls kind o (history kind one.parts c.one.exchanges.items) (history kind two.parts c.two.exchanges.items)
       → NothingDiffers c.report
 
   -- The report itself tells whether they were alike.
   abbrev pub TellsAlike : Compared P Q L → Type 0
-  TellsAlike c = P_faithful one.policy (published kind) → Q_faithful two.policy (published kind)
+  TellsAlike c = p.faithful one.policy (published kind) → q.faithful two.policy (published kind)
       → SaysAlike c.report → NothingDiffers c.report
 
   -- Refused, it says which station was, and why: the first is made first.
   abbrev pub IsUnmade : Unmade → Type 0
-  IsUnmade (First why) = RunsTo kind P_faithful one (Err why)
-  IsUnmade (Second why) = ((made : Installed P L) × Makes one.parts one.policy (Ok made)) × RunsTo kind Q_faithful two (Err why)
+  IsUnmade (First why) = RunsTo kind p one (Err why)
+  IsUnmade (Second why) = ((made : Installed P L) × Installs one.parts one.policy (Ok made)) × RunsTo kind q two (Err why)

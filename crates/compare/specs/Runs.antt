@@ -1,19 +1,20 @@
--- Lists of calls made on a station, from making to the end. Assumes nothing.
-use Rattle.std.specs.Prelude.{◌≡◌, Bool, true, false, cond, List, [], ◌∷◌, length, Some, None, Ok, Err, Option, Result}
+-- Lists of calls made on a station, from making to the end.
+use Rattle.std.specs.Prelude.{◌≡◌, Bool, true, false, cond, not, ◌&&◌, List, [], ◌∷◌, length, Some, None, Ok, Err, Option, Result, ◌==◌}
 use Rattle.labels.specs.Kind.{Kind}
-use Rattle.rules.specs.Tables.{Table, published}
+use Rattle.rules.specs.Tables.{published}
+use Rattle.rules.specs.declared.Policy.{Ghosts as Policy}
+use Rattle.machine.specs.Calls.{Input, LentCall, lent, facts, is_input}
+use Rattle.machine.specs.Numbers.{refusal_number}
 use Rattle.machine.specs.Observer.{History}
-use Rattle.machine.specs.Stations as stations
 use Rattle.machine.specs.declared.answers.Refusal.{Refusal}
-use Rattle.machine.specs.declared.answers.Refusal.TheVariants.{Limits, Length, Cell, Clearance}
+use Rattle.machine.specs.declared.calls.Call.{Call}
 use Rattle.machine.specs.declared.parts.Sizes.{Sizes}
-use Rattle.sites.specs.Calls.{Does, Refuses, StandsFor, Asking, meant}
-use Rattle.sites.specs.Sites.{Installed, Makes, Untouched, sizes_of}
-use Rattle.sites.specs.declared.calls.Call.{Call}
-use Rattle.sites.specs.declared.calls.Call.TheVariants.{Enter, Look, Start, Go, Command}
-use Rattle.sites.specs.declared.calls.Reply.{Reply}
-use Rattle.sites.specs.declared.calls.Reply.TheVariants.{Entered, Shown, Started, Gone, Found, Refused, NotTaken, NotLent}
+use Rattle.steps.specs.Operations.{StaysTrue}
+use Rattle.sites.specs.Calls.{Does, Refuses, Asking}
+use Rattle.sites.specs.Sites.{Installed, Installs, Untouched, sizes_of}
 use Rattle.sites.specs.declared.lending.Parts.{Parts}
+use Rattle.sites.specs.declared.replies.Reply.{Reply}
+use Rattle.sites.specs.declared.replies.Reply.TheVariants.{Refused, NotTaken, NotLent}
 use Rattle.compare.specs.declared.exchanges.Exchange.{Exchange}
 use Rattle.compare.specs.declared.exchanges.Lent.{Lent}
 use Rattle.compare.specs.declared.exchanges.Lent.TheVariants.{Own, Others}
@@ -24,17 +25,16 @@ use Rattle.compare.specs.declared.plans.Ran.{Ran}
 abbrev pub own_call : {L : Type 0} → Call L → Exchange L
 own_call call = record { call = call; lent = Own; reply = None }
 
-module _ {P L : Type 0} (kind : Kind L) (faithful : P → Table L → Type 0) where
+module _ {P L : Type 0} (kind : Kind L) (policy : Policy P L) where
   -- What a call that is lent its own or others' parts does, with what it leaves of them and of the policy.
   abbrev pub Meets : Installed P L → Call L → Lent L → Installed P L → Lent L → Reply L → Type 0
-  Meets before call Own left Own reply = Does kind (StandsFor (faithful before.policy) call) before.sited call left.sited reply
-      × ((table : Table L) → faithful before.policy table → faithful left.policy table)
+  Meets before call Own left Own reply = Does kind (policy.faithful before.policy) before.sited call left.sited reply
+      × StaysTrue policy before.policy left.policy
       × ((Asking before.sited.station call → ⊥) → left.policy ≡ before.policy)
   Meets before call (Others parts) left (Others parts') reply = Refuses before.sited (sizes_of parts) call left.sited reply
       × Untouched parts parts'
       × (left.policy ≡ before.policy)
-  Meets before call Own left (Others parts') reply = ⊥
-  Meets before call (Others parts) left Own reply = ⊥
+  Meets before call lent left lent' reply = ⊥
 
   -- A call of a list, made on a station: the reply is kept with it.
   pub record Exchanged (before : Installed P L) (asked : Exchange L) (left : Installed P L) (told : Exchange L) : Type 0 where
@@ -47,55 +47,39 @@ module _ {P L : Type 0} (kind : Kind L) (faithful : P → Table L → Type 0) wh
   pub data Plays : Installed P L → List (Exchange L) → List (Exchange L) → Installed P L → Type 0 where
     over : {site : Installed P L} → Plays site [] [] site
     next : {before between left : Installed P L} {asked told : Exchange L} {more more_told : List (Exchange L)}
-        → Exchanged before asked between told → Plays between more more_told left → Plays before (asked ∷ more) (told ∷ more_told) left
+        → Exchanged before asked between told → Plays between more more_told left
+        → Plays before (asked ∷ more) (told ∷ more_told) left
 
   -- A plan that is run: what making is refused, or a station made of these parts and the calls made on it.
   abbrev pub RunsTo : Plan P L → Result (Ran P L) Refusal → Type 0
-  RunsTo plan (Ok ran) = (made : Installed P L) × Makes plan.parts plan.policy (Ok made) × Plays made plan.exchanges.items ran.exchanges.items ran.site
-  RunsTo plan (Err why) = Makes plan.parts plan.policy (Err why)
+  RunsTo plan (Ok ran) = (made : Installed P L) × Installs plan.parts plan.policy (Ok made)
+      × Plays made plan.exchanges.items ran.exchanges.items ran.site
+  RunsTo plan (Err why) = Installs plan.parts plan.policy (Err why)
 
 module _ {L : Type 0} where
   -- whether a reply says that the call was made
   abbrev pub made : Reply L → Bool
-  made Entered = true
-  made (Shown number) = true
-  made Started = true
-  made (Gone steps state) = true
-  made (Found place) = true
-  made (Refused why) = true
   made (NotTaken state) = false
   made NotLent = false
+  made reply = true
 
-  -- Whether a reply says that the call was made and not refused for a part. (No call but making is refused for a limit.)
+  -- Whether a reply says that the call was made and not refused with 2.
   abbrev pub stands : Reply L → Bool
-  stands Entered = true
-  stands (Shown number) = true
-  stands Started = true
-  stands (Gone steps state) = true
-  stands (Found place) = true
-  stands (Refused (Limits part)) = true
-  stands (Refused (Length part)) = false
-  stands (Refused Cell) = true
-  stands (Refused Clearance) = true
-  stands (NotTaken state) = false
-  stands NotLent = false
-
-  -- enters and starts
-  abbrev pub enters_or_starts : Call L → Bool
-  enters_or_starts (Enter cell number) = true
-  enters_or_starts (Look cell clearance) = false
-  enters_or_starts Start = true
-  enters_or_starts (Go fuel) = false
-  enters_or_starts (Command from clearance) = false
+  stands (Refused why) = not (refusal_number why == 2)
+  stands reply = made reply
 
   abbrev pub replied : (Reply L → Bool) → Option (Reply L) → Bool
   replied test None = false
   replied test (Some reply) = test reply
 
+  -- the enters and starts that a call of a list stands for, if it counts
+  abbrev pub inputs_of : Exchange L → List (Input L)
+  inputs_of e = (facts e.call).inputs
+
   -- Whether a call counts when two lists are compared: an enter or a start that was made, and not refused for a part. These are
   -- the calls that are left of the history below when the others are struck out.
   abbrev pub counts : Exchange L → Bool
-  counts e = cond (enters_or_starts e.call) (replied stands e.reply) false
+  counts e = replied stands e.reply && is_input e.call
 
   -- how long the parts are that a call is lent, of a station with parts of these lengths
   abbrev pub lens_of : Sizes → Lent L → Sizes
@@ -103,10 +87,11 @@ module _ {L : Type 0} where
   lens_of sizes (Others parts) = sizes_of parts
 
   module _ (kind : Kind L) where
-    -- The calls that were made, each go under a policy that is true to the published rows.
-    abbrev pub calls_made : Sizes → List (Exchange L) → List (stations.Call L)
+    -- The calls that were made, under a policy that is true to the published rows.
+    abbrev pub calls_made : Sizes → List (Exchange L) → List (LentCall L)
     calls_made sizes [] = []
-    calls_made sizes (e ∷ es) = cond (replied made e.reply) (meant (lens_of sizes e.lent) (published kind) e.call ∷ calls_made sizes es) (calls_made sizes es)
+    calls_made sizes (e ∷ es) =
+        cond (replied made e.reply) (lent e.call (lens_of sizes e.lent) (published kind) ∷ calls_made sizes es) (calls_made sizes es)
 
     -- a station as it was made of these parts, and the calls made on it since
     abbrev pub history : Parts L → List (Exchange L) → History L

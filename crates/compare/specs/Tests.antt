@@ -1,11 +1,11 @@
--- Tests that a comparison is made of. Assumes nothing.
+-- Tests that a comparison is made of.
 use Rattle.std.specs.Prelude.{pos, Bool, false}
 use Rattle.machine.specs.declared.answers.Refusal.{Refusal}
 use Rattle.machine.specs.declared.parts.Labelled.{Labelled}
 use Rattle.machine.specs.declared.parts.Operation.{Operation}
 use Rattle.machine.specs.declared.parts.Operation.TheVariants.{Push, Pop, Noop, Add, Sub, Less, Load, Store, Jump, Bnz, Call, Return, Output, Halt}
-use Rattle.sites.specs.declared.calls.Reply.{Reply}
-use Rattle.sites.specs.declared.calls.Reply.TheVariants.{Shown, Refused}
+use Rattle.sites.specs.declared.replies.Reply.{Reply}
+use Rattle.sites.specs.declared.replies.Reply.TheVariants.{Shown, Refused}
 
 -- an operation without the number that a push holds
 abbrev pub without_number : {L : Type 0} → Operation L → Operation Bool

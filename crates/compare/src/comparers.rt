@@ -3,36 +3,35 @@ ghost use Rattle.std.specs.Prelude.{◌≡◌, ◌↔◌, ◌⊎◌, Bool, IsTru
 ghost use Rattle.std.proofs.Common.{sym};
 ghost use Rattle.machine.specs.Observer.{Alike, AlikeOperation};
 ghost use Rattle.machine.proofs.Alikes.{alike_sym};
-ghost use Rattle.compare.specs.Runs.{counts};
+ghost use Rattle.compare.specs.Runs.{counts, inputs_of};
 ghost use Rattle.compare.specs.Reports.{AlikeExchange};
 ghost use Rattle.compare.specs.Tests.{without_number};
-ghost use Rattle.compare.specs.Symmetry.{input_sym, operation_sym};
+ghost use Rattle.compare.specs.Symmetry.{inputs_sym, operation_sym};
 
 use crate::differences::Comparer;
 use crate::exchanges::Exchange;
 use labels::{Label, same};
-use machine::{Labelled, Operation};
-use sites::Call;
+use machine::{Call, Labelled, Operation};
 
-// Operations of a program. They are alike if they are the same, except that pushed numbers need only be alike.
+/// Operations of a program. They are alike if they are the same, except that pushed numbers need only be alike.
 #[derive(Clone, Copy)]
 pub struct Operations<L> {
     pub level: L,
 }
 
-// Cells of a memory.
+/// Cells of a memory.
 #[derive(Clone, Copy)]
 pub struct Cells<L> {
     pub level: L,
 }
 
-// The calls of a list that count.
+/// The calls of a list that count.
 #[derive(Clone, Copy)]
 pub struct Inputs<L> {
     pub level: L,
 }
 
-// The commands at or below the level, which are alike only if they are the same.
+/// The commands at or below the level, which are alike only if they are the same.
 #[derive(Clone, Copy)]
 pub struct Commands<L> {
     pub level: L,
@@ -88,7 +87,7 @@ impl<L: Label> Comparer<Exchange<L>> for Inputs<L> {
 
     ghost alike = { λ c. AlikeExchange L.Label.kind c.level };
 
-    ghost symmetric = { λ c first second. input_sym L.Label.kind c.level first.call second.call };
+    ghost symmetric = { λ c first second. inputs_sym L.Label.kind c.level (inputs_of first) (inputs_of second) };
 
     fn has(&self, exchange: &Exchange<L>) -> bool
         ensures { result ≡ counts exchange.now }

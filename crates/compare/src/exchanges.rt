@@ -3,28 +3,28 @@ ghost use Rattle.std.specs.Prelude.{◌≡◌};
 ghost use Rattle.compare.specs.Runs.{Exchanged, counts, own_call};
 
 use labels::Label;
-use machine::Refusal;
+use machine::{Call, Refusal};
 use rules::Policy;
-use sites::{Call, Parts, Reply, Site};
+use sites::{Parts, Reply, Site};
 
-// What a call is lent: the station's own parts, or others in their place.
+/// What a call is lent: the station's own parts, or others in their place.
 #[derive(Debug, Drop)]
 pub enum Lent<L> {
     Own,
     Others(Parts<L>),
 }
 
-// A call of a list.
+/// A call of a list, with what it is lent and the reply.
 #[derive(Debug, Drop)]
 pub struct Exchange<L> {
     pub call: Call<L>,
     pub lent: Lent<L>,
-    // the reply, once the call was made or declined
+    /// The reply, once the call was made or declined.
     pub reply: Option<Reply<L>>,
 }
 
 impl<L: Label> Exchange<L> {
-    // A call that is lent the station's own parts.
+    /// A call that is lent the station's own parts, before it is made.
     pub fn of(call: Call<L>) -> Exchange<L>
         ensures { result ≡ own_call call }
     {
@@ -37,7 +37,7 @@ impl<L: Label> Exchange<L> {
 
     // Makes the call on a site and keeps the reply.
     pub(crate) fn make_on<P: Policy<L> + Drop>(&mut self, site: Site<P, L>) -> Site<P, L>
-        ensures { Exchanged L.Label.kind P.Policy.faithful site self.old result self.new }
+        ensures { Exchanged L.Label.kind P.Policy site self.old result self.new }
     {
         let call = self.call;
         let (site, reply) = match &mut self.lent {
@@ -48,7 +48,7 @@ impl<L: Label> Exchange<L> {
         site
     }
 
-    // Whether the call counts when two lists are compared: an enter or a start that was made, and not refused for a part.
+    /// Whether the call counts when two lists are compared: an enter or a start that was made, and not refused for a part.
     pub fn counts(&self) -> bool
         ensures { result ≡ counts self.now }
     {
@@ -56,6 +56,6 @@ impl<L: Label> Exchange<L> {
             self.reply,
             None | Some(Reply::NotTaken(_) | Reply::NotLent | Reply::Refused(Refusal::Length(_)))
         );
-        stands && matches!(self.call, Call::Enter { .. } | Call::Start)
+        stands && self.call.is_input()
     }
 }

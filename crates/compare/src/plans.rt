@@ -8,7 +8,7 @@ use machine::Refusal;
 use rules::Policy;
 use sites::{Parts, Site};
 
-// What a station is made of, its policy, and the calls to be made on it, one after the other.
+/// What a station is made of, its policy, and the calls to be made on it, one after the other.
 #[derive(Drop)]
 pub struct Plan<P, L> {
     pub parts: Parts<L>,
@@ -16,7 +16,7 @@ pub struct Plan<P, L> {
     pub exchanges: Vec<Exchange<L>>,
 }
 
-// The station as the last call left it, and the calls with their replies.
+/// The station as the last call left it, and the calls with their replies.
 #[derive(Drop)]
 pub struct Ran<P, L> {
     pub site: Site<P, L>,
@@ -24,9 +24,9 @@ pub struct Ran<P, L> {
 }
 
 impl<P: Policy<L> + Drop, L: Label> Plan<P, L> {
-    // Makes the station and then the calls. A call that the station's state does not take is not made.
+    /// Makes the station and then the calls. Refused if the station is not made. A call that the station's state does not take is not made.
     pub fn run(self) -> Result<Ran<P, L>, Refusal>
-        ensures { RunsTo L.Label.kind P.Policy.faithful self result }
+        ensures { RunsTo L.Label.kind P.Policy self result }
     {
         let Plan {
             parts,
@@ -44,7 +44,7 @@ fn make_all<P: Policy<L> + Drop, L: Label>(
     site: Site<P, L>,
     exchanges: &mut [Exchange<L>],
 ) -> Site<P, L>
-    ensures { Plays L.Label.kind P.Policy.faithful site exchanges.old exchanges.new result }
+    ensures { Plays L.Label.kind P.Policy site exchanges.old exchanges.new result }
 {
     let mut site = site;
     for exchange in exchanges.iter_mut() {

@@ -12,7 +12,7 @@ use machine::Refusal;
 use rules::Policy;
 use sites::{Reply, Site};
 
-// What is left of two plans that were compared, and the report.
+/// What is left of two plans that were compared, and the report.
 #[derive(Drop)]
 pub struct Compared<P, Q, L> {
     pub one: Ran<P, L>,
@@ -20,38 +20,38 @@ pub struct Compared<P, Q, L> {
     pub report: Report,
 }
 
-// What the observer is told of two plans: where they first differ to him, if they do.
+/// What the observer is told of two plans: where they first differ to him, if they do.
 #[derive(Clone, Copy, Debug, PartialEq, Eq)]
 pub struct Report {
-    // of the programs and memories, as the stations were made of them
+    /// Of the programs and memories, as the stations were made of them
     pub programs: Option<usize>,
     pub memories: Option<usize>,
-    // of the enters and starts that count
+    /// Of the enters and starts that count.
     pub calls: Option<usize>,
-    // of the commands at or below the level
+    /// Of the commands at or below the level.
     pub commands: Option<usize>,
     pub looks: Looks,
 }
 
-// What is told of the looks that the observer may make into each cell of both stations.
+/// What is told of the looks that the observer may make into each cell of both stations.
 #[derive(Clone, Copy, Debug, PartialEq, Eq)]
 pub enum Looks {
-    // Not equally many enters and starts counted, or a station is not idle.
+    /// Not equally many enters and starts counted, or a station is not idle.
     NotDue,
     Same,
-    // the first cell at which they differ
+    /// The first cell at which they differ.
     DifferAt(usize),
 }
 
 impl Report {
-    // Whether programs, memories and calls were alike to the observer.
+    /// Whether programs, memories and calls were alike to the observer.
     pub fn says_alike(&self) -> bool
         ensures { IsTrue result ↔ SaysAlike self.now }
     {
         self.programs.is_none() && self.memories.is_none() && self.calls.is_none()
     }
 
-    // Whether he is given nothing that differs.
+    /// Whether he is given nothing that differs.
     pub fn nothing_differs(&self) -> bool
         ensures { IsTrue result ↔ NothingDiffers self.now }
     {
@@ -59,23 +59,23 @@ impl Report {
     }
 }
 
-// The station that could not be made, and why.
+/// The station that could not be made, and why.
 #[derive(Clone, Copy, Debug, PartialEq, Eq)]
 pub enum Unmade {
     First(Refusal),
     Second(Refusal),
 }
 
-// Runs two plans, each from making its station to its last call, and compares what the observer at a level is given.
+/// Runs two plans, each from making its station to its last call, and compares what the observer at a level is given.
 pub fn compare<P: Policy<L> + Drop, Q: Policy<L> + Drop, L: Label>(
     level: L,
     one: Plan<P, L>,
     two: Plan<Q, L>,
 ) -> Result<Compared<P, Q, L>, Unmade>
-    ensures compares { IfOk result (Compares L.Label.kind P.Policy.faithful Q.Policy.faithful level one two) }
-    ensures unmade { IfErr result (IsUnmade L.Label.kind P.Policy.faithful Q.Policy.faithful level one two) }
-    ensures secrecy { IfOk result (KeepsSecret L.Label.kind P.Policy.faithful Q.Policy.faithful level one two) }
-    ensures told { IfOk result (TellsAlike L.Label.kind P.Policy.faithful Q.Policy.faithful level one two) }
+    ensures compares { IfOk result (Compares L.Label.kind P.Policy Q.Policy level one two) }
+    ensures unmade { IfErr result (IsUnmade L.Label.kind P.Policy Q.Policy level one two) }
+    ensures secrecy { IfOk result (KeepsSecret L.Label.kind P.Policy Q.Policy level one two) }
+    ensures told { IfOk result (TellsAlike L.Label.kind P.Policy Q.Policy level one two) }
 {
     let programs = first_unlike(
         &Operations { level },
@@ -115,7 +115,9 @@ pub fn compare<P: Policy<L> + Drop, Q: Policy<L> + Drop, L: Label>(
 
 // Compares the looks, where they are due.
 fn compare_looks<P, Q, L: Label>(level: L, one: &Ran<P, L>, two: &Ran<Q, L>) -> Looks
-    ensures { LooksTold L.Label.kind level (LooksDue L.Label.kind level one.now.exchanges.items two.now.exchanges.items one.now.site.sited two.now.site.sited) one.now.site.sited two.now.site.sited result }
+    ensures { LooksTold L.Label.kind level
+        (LooksDue L.Label.kind level one.now.exchanges.items two.now.exchanges.items one.now.site.sited two.now.site.sited)
+        one.now.site.sited two.now.site.sited result }
 {
     if !looks_are_due(level, one, two) {
         return Looks::NotDue;
@@ -128,7 +130,8 @@ fn compare_looks<P, Q, L: Label>(level: L, one: &Ran<P, L>, two: &Ran<Q, L>) -> 
 
 // Whether equally many enters and starts counted, and both stations are idle.
 fn looks_are_due<P, Q, L: Label>(level: L, one: &Ran<P, L>, two: &Ran<Q, L>) -> bool
-    ensures { IsTrue result ↔ LooksDue L.Label.kind level one.now.exchanges.items two.now.exchanges.items one.now.site.sited two.now.site.sited }
+    ensures { IsTrue result ↔ LooksDue L.Label.kind level
+        one.now.exchanges.items two.now.exchanges.items one.now.site.sited two.now.site.sited }
 {
     let inputs = Inputs { level };
     count(&inputs, one.exchanges.as_slice()) == count(&inputs, two.exchanges.as_slice())
@@ -162,7 +165,7 @@ fn same_reply<L: Label>(first: Reply<L>, second: Reply<L>) -> bool
     }
 }
 
-// Where every look at a level has the same answer on both stations, so has every look with a clearance below.
+/// Where every look at a level has the same answer on both stations, so has every look with a clearance below.
 pub fn same_below<L: Label>()
     ensures { SameBelow L.Label.kind }
 {}
