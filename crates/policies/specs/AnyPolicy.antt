@@ -25,7 +25,7 @@ module _ {L : Type 0} (kind : Kind L) where
       CachedAsked (RowsAsked kind) before q answer after
   AnyAsked _ _ _ _ = ⊥
 
-  -- both
+  -- what it is true to and what asking it does, as the trait has them
   abbrev pub any_policy : Ghosts (AnyPolicy L) L
   any_policy = record { faithful = AnyFaithful; asked = AnyAsked }
 

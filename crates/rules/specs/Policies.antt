@@ -18,7 +18,7 @@ module _ {L : Type 0} (kind : Kind L) where
   abbrev pub DirectAsked : Effect Direct L
   DirectAsked before request answer after = (answer ≡ published kind request) × (after ≡ before)
 
-  -- both
+  -- what it is true to and what asking it does, as the trait has them
   abbrev pub direct_policy : Ghosts Direct L
   direct_policy = record { faithful = DirectFaithful; asked = DirectAsked }
 
@@ -48,7 +48,7 @@ module _ {P L : Type 0} (asked : Effect P L) (before : Cached P L) where
     pub miss : ((a : Option (Verdict L)) → before.last ≢ memory request a)
         → asked before.below request answer after.below
 
--- the cache over a policy
+-- the same of a cache over a policy
 abbrev pub cached_policy : {P L : Type 0} → Ghosts P L → Ghosts (Cached P L) L
 cached_policy below =
     record { faithful = CachedFaithful below.faithful; asked = CachedAsked below.asked }

@@ -85,6 +85,6 @@ module _ {L : Type 0} (kind : Kind L) where
   abbrev pub RowsAsked : Effect RowTable L
   RowsAsked before request answer after = (answer ≡ by_rows before.rows request) × (after ≡ before)
 
-  -- both
+  -- what it is true to and what asking it does, as the trait has them
   abbrev pub rows_policy : Ghosts RowTable L
   rows_policy = record { faithful = RowsFaithful; asked = RowsAsked }
