@@ -42,7 +42,7 @@ impl<P: Policy<L>, L: Label> Faithful<P, L> {
 
     // The answer to the question on a line, if there is one: the published rows'.
     fn answer<'a>(&mut self, line: &'a str) -> Result<Option<Answer<L>>, Fault<'a>>
-        ensures answers { Answers L.Label.text L.Label.kind.bottom P.Policy.asked line.now self.old result self.new }
+        ensures answers { Answers L.Label.own P.Policy line.now self.old result self.new }
         ensures told { ByTable (published L.Label.kind) result }
     {
         answer_line::<P, L>(&mut self.policy, line)

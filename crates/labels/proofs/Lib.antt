@@ -1,3 +1,4 @@
+-- Lemmas on sets of growers, joins and texts.
 pub mod Joins
 pub mod Members
 pub mod Texts

@@ -1,4 +1,4 @@
--- What masks say of their members, bit by bit. Assumes nothing.
+-- What masks say of their members, bit by bit.
 use Rattle.std.proofs.Common.{◌≡◌, ℕ, true, eqb, ◌⊎◌, ap, ◌∙◌, inl, inr, ⊎_elim, arith}
 use Rattle.std.specs.Int.{bit_at}
 use Rattle.std.specs.Prelude.{bit_or}
@@ -15,16 +15,26 @@ absorbed a b within =
     (λ e. omega (arith, bit_at_or a b g, bit_at-lt a g, eqb-false (bit_at a g) 1 e))
     (cases_Bool (eqb (bit_at a g) 1)))
 
-pub inclusion : (a b : Growers) → (grower_sets.below a b ≡ true → Within a b) × (Within a b → grower_sets.below a b ≡ true)
+-- the test of the order is inclusion
+pub inclusion : (a b : Growers)
+    → (grower_sets.below a b ≡ true → Within a b) × (Within a b → grower_sets.below a b ≡ true)
 inclusion a b = (
-  λ e g here. omega (arith, ap (λ n. bit_at n g) (eqb-true (bit_or a.mask b.mask) b.mask e), bit_at_or a.mask b.mask g, bit_at-lt b.mask g),
+  λ e g here.
+      let same = ap (λ n. bit_at n g) (eqb-true (bit_or a.mask b.mask) b.mask e) in
+      omega (arith, same, bit_at_or a.mask b.mask g, bit_at-lt b.mask g),
   λ within. eq-eqb _ _ (absorbed a.mask b.mask within),
 )
 
-pub union_has : (a b : Growers) (m : ℕ) → m ≡ bit_or a.mask b.mask → (g : ℕ) → (bit_at m g ≡ 1 → In g a ⊎ In g b) × (In g a → bit_at m g ≡ 1) × (In g b → bit_at m g ≡ 1)
+-- a bit of the masks' `|` is in either
+pub union_has : (a b : Growers) (m : ℕ) → m ≡ bit_or a.mask b.mask → (g : ℕ)
+    → (bit_at m g ≡ 1 → In g a ⊎ In g b) × (In g a → bit_at m g ≡ 1) × (In g b → bit_at m g ≡ 1)
 union_has a b m is g =
     let whole = ap (λ n. bit_at n g) is ∙ bit_at_or a.mask b.mask g in (
-      λ e. ⊎_elim (λ t. inl (eqb-true (bit_at a.mask g) 1 t)) (λ f. inr (omega (arith, whole, eqb-false (bit_at a.mask g) 1 f, bit_at-lt a.mask g))) (cases_Bool (eqb (bit_at a.mask g) 1)),
+      λ e.
+          ⊎_elim
+          (λ t. inl (eqb-true (bit_at a.mask g) 1 t))
+          (λ f. inr (omega (arith, whole, eqb-false (bit_at a.mask g) 1 f, bit_at-lt a.mask g)))
+          (cases_Bool (eqb (bit_at a.mask g) 1)),
       λ e. omega (arith, whole, bit_at-lt b.mask g),
       λ e. omega (arith, whole, bit_at-lt a.mask g),
     )

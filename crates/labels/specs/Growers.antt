@@ -1,5 +1,6 @@
--- Sets of sixteen growers by their masks: inclusion as order, union as join. Assumes nothing.
-use Rattle.std.specs.Prelude.{◌≡◌, ℕ, ◌+◌, ◌/◌, ◌%◌, ◌^◌, ◌<◌, cond, ◌⊎◌, List, [], ◌∷◌, Some, None, Option, ◌==◌, ◌≢◌, bit_or, nat_lt}
+-- Sets of sixteen growers by their masks: inclusion as order, union as join.
+use Rattle.std.specs.Prelude.{◌≡◌, ◌≢◌, ℕ, ◌+◌, ◌/◌, ◌%◌, ◌^◌, ◌<◌, ◌==◌, nat_lt, bit_or}
+use Rattle.std.specs.Prelude.{cond, ◌⊎◌, List, [], ◌∷◌, Some, None, Option}
 use Rattle.std.proofs.lemmas.Nat.{or_lt}
 use Rattle.std.proofs.Common.{lit<}
 use Rattle.labels.specs.Kind.{Kind}
@@ -34,6 +35,7 @@ abbrev pub HexDigit : ℕ → Option ℕ → Type 0
 HexDigit byte None = (n : ℕ) → n < 16 → byte ≢ hex n
 HexDigit byte (Some n) = (n < 16) × (byte ≡ hex n)
 
--- four digits of the mask, the highest first
+-- the four digits of the mask, the highest first
 abbrev pub grower_text : Growers → List ℕ
-grower_text a = hex (a.mask / 4096) ∷ hex (a.mask / 256 % 16) ∷ hex (a.mask / 16 % 16) ∷ hex (a.mask % 16) ∷ []
+grower_text a =
+    hex (a.mask / 4096) ∷ hex (a.mask / 256 % 16) ∷ hex (a.mask / 16 % 16) ∷ hex (a.mask % 16) ∷ []

@@ -1,3 +1,4 @@
+-- What the contracts cite: kinds of label, their laws and texts.
 pub mod Kind
 pub mod Text
 pub mod Level

@@ -1,11 +1,13 @@
--- Pairs of labels of two kinds, compared and joined part by part. Assumes nothing.
+-- Pairs of labels of two kinds, compared and joined part by part.
 use Rattle.std.specs.Prelude.{ℕ, ◌&&◌, List, ◌++◌}
 use Rattle.labels.specs.Kind.{Kind}
 use Rattle.labels.specs.declared.pair.Pair.{Pair}
 
+-- the pair of a and b
 abbrev pub pair : {A B : Type 0} → A → B → Pair A B
 pair a b = record { left = a; right = b }
 
+-- pairs as a kind of label
 abbrev pub pairs : {A B : Type 0} → Kind A → Kind B → Kind (Pair A B)
 pairs k l = record {
   below = λ x y. k.below x.left y.left && l.below x.right y.right;

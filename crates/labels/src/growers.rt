@@ -1,3 +1,4 @@
+// Sets of growers as labels, ordered by inclusion, joined by union, four hexadecimal digits each.
 ghost use Rattle.std.specs.Prelude.{◌≡◌, ◌↔◌, ℕ, ◌<◌, IsTrue, ◌==◌, bit_or, Some, refl};
 ghost use Rattle.labels.specs.Growers.{grower_sets, grower_text, In, Within, Unites, hex, HexDigit};
 ghost use Rattle.labels.specs.Masks.{grower_laws};
@@ -58,7 +59,7 @@ impl Label for Growers {
 impl fmt::Display for Growers {
     ghost output = { λ x. Some (grower_text x) };
 
-    // Byte by byte: the library has lemmas for two hexadecimal digits, and none for the four of `{:04x}`.
+    // Byte by byte: the library has lemmas for two hexadecimal digits, and none for `{:04x}`.
     fn fmt<W: fmt::Write>(&self, f: &mut fmt::Formatter<W>) -> fmt::Result {
         let high = self.mask / 256;
         let low = self.mask % 256;

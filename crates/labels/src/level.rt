@@ -1,3 +1,4 @@
+// Levels as labels, ordered by their numbers, joined to the larger, one digit each.
 ghost use Rattle.std.specs.Prelude.{Some, ◌++◌, codes};
 ghost use Rattle.std.specs.Fmt.{decimal};
 ghost use Rattle.labels.specs.Level.{levels, level_text, LevelDigit};
@@ -7,7 +8,7 @@ use crate::Label;
 use std::error::Error;
 use std::fmt;
 
-// A level from 0 to 7. There is none above 7.
+/// A level from 0 to 7. There is none above 7.
 #[derive(Clone, Copy, Debug, PartialEq, Eq, PartialOrd, Ord, Hash)]
 pub enum Level {
     L0,
@@ -50,7 +51,7 @@ impl Label for Level {
     }
 }
 
-// A byte that is no level's digit.
+/// A byte that is no level's digit.
 #[derive(Clone, Copy, Debug, PartialEq, Eq, Hash)]
 pub struct NotALevel(pub u8);
 
@@ -59,7 +60,7 @@ impl TryFrom<u8> for Level {
 
     ghost try_from_gives = { LevelDigit };
 
-    // The level of a digit.
+    /// The level whose digit the byte is. Refuses every other byte.
     fn try_from(digit: u8) -> Result<Level, NotALevel> {
         match digit {
             b'0' => Ok(Level::L0),
@@ -85,7 +86,8 @@ impl fmt::Display for Level {
 }
 
 impl fmt::Display for NotALevel {
-    ghost output = { λ e. Some (codes "byte " ++ (decimal e.0 ++ codes " is no digit of a level")) };
+    ghost output = { λ e. Some
+        (codes "byte " ++ (decimal e.0 ++ codes " is no digit of a level")) };
 
     fn fmt<W: fmt::Write>(&self, f: &mut fmt::Formatter<W>) -> fmt::Result {
         write!(f, "byte {} is no digit of a level", self.0)

@@ -1,3 +1,4 @@
+// Pairs of labels as labels, ordered and joined part by part, the left one's text first.
 ghost use Rattle.std.specs.Prelude.{Some};
 ghost use Rattle.labels.specs.Pair.{pairs, pair_text};
 ghost use Rattle.labels.specs.PrefixFree.{pair_prefix_free};
@@ -6,7 +7,7 @@ ghost use Rattle.std.proofs.Common.{rules};
 use crate::Label;
 use std::fmt;
 
-// Labels of two kinds, compared and joined part by part.
+/// Labels of two kinds, compared and joined part by part.
 #[derive(Clone, Copy, Debug, PartialEq, Eq, Hash)]
 pub struct Pair<A, B> {
     pub left: A,
@@ -20,7 +21,8 @@ impl<A: Label, B: Label> Label for Pair<A, B> {
 
     ghost lawful = { Prim.search rules };
 
-    ghost unambiguous = { pair_prefix_free A.Label.text B.Label.text A.Label.unambiguous B.Label.unambiguous };
+    ghost unambiguous = { pair_prefix_free A.Label.text B.Label.text
+        A.Label.unambiguous B.Label.unambiguous };
 
     ghost shown = { Prim.search rules };
 

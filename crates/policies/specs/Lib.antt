@@ -1,2 +1,3 @@
+-- What the contracts cite: names, and policies by name.
 pub mod Names
 pub mod AnyPolicy

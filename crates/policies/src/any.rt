@@ -1,5 +1,6 @@
+// One type for whichever policy is named.
 ghost use Rattle.std.specs.Prelude.{◌≡◌};
-ghost use Rattle.policies.specs.AnyPolicy.{AnyFaithful, AnyAsked, IsNamed};
+ghost use Rattle.policies.specs.AnyPolicy.{AnyFaithful, AnyAsked, any_policy, IsPicked};
 ghost use Rattle.rules.specs.Policies.{Named};
 ghost use Rattle.rules.specs.Tables.{Obeys, published};
 
@@ -7,7 +8,8 @@ use crate::PolicyName;
 use labels::Label;
 use rules::{Cached, Direct, Policy, Request, RowTable, Verdict};
 
-// Whichever policy a name picks. Code over it is compiled once for each kind of label, and not once more for each policy.
+/// Whichever policy a name picks. Code over it is compiled once for each kind of label, and not
+/// once more for each policy.
 #[derive(Debug, Drop)]
 pub enum AnyPolicy<L> {
     Direct(Direct),
@@ -16,11 +18,11 @@ pub enum AnyPolicy<L> {
 }
 
 impl<L: Label> AnyPolicy<L> {
-    // The policy with this name, as new, and true to the published rows.
+    /// The policy with this name, as new, and true to the published rows.
     pub fn named(name: PolicyName) -> AnyPolicy<L>
-        ensures picked { IsNamed name result }
+        ensures picked { IsPicked name result }
         ensures faithful { AnyFaithful L.Label.kind result (published L.Label.kind) }
-        ensures named { Named ⟦<AnyPolicy<L> as Policy<L>>⟧.faithful (AnyFaithful L.Label.kind) ⟦<AnyPolicy<L> as Policy<L>>⟧.asked (AnyAsked L.Label.kind) }
+        ensures named { Named ⟦<AnyPolicy<L> as Policy<L>>⟧ (any_policy L.Label.kind) }
     {
         match name {
             PolicyName::Direct => AnyPolicy::Direct(Direct::new::<L>()),

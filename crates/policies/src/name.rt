@@ -1,12 +1,14 @@
 // The names of the policies.
 ghost use Rattle.std.specs.Prelude.{◌≡◌, Some, codes};
-ghost use Rattle.policies.specs.Names.{name, NameRead};
+ghost use Rattle.policies.specs.Names.{name};
+ghost use Rattle.rules.specs.Texts.{NameRead};
 
 use std::error::Error;
 use std::fmt;
 use std::str::FromStr;
 
-// A policy by name: the rows worked out directly, the rows read off a table, or a cache over that table.
+/// A policy by name: the rows worked out directly, the rows read off a table, or a cache over that
+/// table.
 #[derive(Clone, Copy, Debug, PartialEq, Eq, Hash)]
 pub enum PolicyName {
     Direct,
@@ -15,6 +17,7 @@ pub enum PolicyName {
 }
 
 impl PolicyName {
+    /// The policy's name, in small letters.
     pub fn name(self) -> &'static str
         ensures { result.now ≡ name self }
     {
@@ -34,15 +37,16 @@ impl fmt::Display for PolicyName {
     }
 }
 
-// A word that is no policy's name.
+/// What a word that is no policy's name is read as.
 #[derive(Clone, Copy, Debug, PartialEq, Eq, Hash)]
 pub struct NotAPolicy;
 
 impl FromStr for PolicyName {
     type Err = NotAPolicy;
 
-    ghost from_str_gives = { NameRead };
+    ghost from_str_gives = { NameRead name };
 
+    /// The policy of that name. Refuses every word that is no policy's name.
     fn from_str(word: &str) -> Result<PolicyName, NotAPolicy> {
         match word {
             "direct" => Ok(PolicyName::Direct),

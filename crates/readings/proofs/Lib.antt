@@ -1,1 +1,2 @@
+-- Lemmas on sets of growers as sources.
 pub mod Alone

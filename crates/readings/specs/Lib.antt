@@ -1,3 +1,4 @@
+-- What the contracts cite: sources of readings, and labels in words.
 pub mod Readings
 pub mod Levels
 pub mod Growers

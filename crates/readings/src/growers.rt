@@ -1,7 +1,9 @@
+// Whose readings sets of growers admit: the sources are the growers.
 ghost use Rattle.std.specs.Prelude.{◌≡◌, ◌↔◌, ◌<◌, IsTrue, Some};
 ghost use Rattle.labels.specs.Growers.{grower_sets, In};
 ghost use Rattle.readings.specs.Readings.{admitted};
-ghost use Rattle.readings.specs.Growers.{grower_alone, grower_names, grower_words, named_below, one_grower};
+ghost use Rattle.readings.specs.Growers.{grower_alone, grower_names};
+ghost use Rattle.readings.specs.Growers.{grower_words, named_below, one_grower};
 ghost use Rattle.readings.specs.Counted.{growers_counted};
 
 use crate::Readings;
@@ -11,7 +13,7 @@ use std::fmt;
 // How many growers there are.
 const GROWERS: usize = 16;
 
-// The sources are the sixteen growers. A set admits each grower in it.
+/// The sources are the sixteen growers. A set admits each grower in it.
 impl Readings for Growers {
     type Words = GrowersNamed;
 
@@ -56,7 +58,7 @@ impl Readings for Growers {
     }
 }
 
-// Shown as `no grower`, `grower 1` or `growers 0 2`.
+/// A set of growers in words, shown as `no grower`, `grower 1` or `growers 0 2`.
 #[derive(Clone, Copy, Debug)]
 pub struct GrowersNamed(pub Growers);
 
@@ -90,7 +92,7 @@ impl fmt::Display for Each {
     }
 }
 
-// Shown as `grower 0`.
+/// A grower by his number, shown as `grower 0`.
 #[derive(Clone, Copy, Debug)]
 pub struct OneGrower(pub usize);
 

@@ -1,3 +1,4 @@
+// Whose readings levels admit: the sources are the levels.
 ghost use Rattle.std.specs.Prelude.{◌≡◌, ◌↔◌, ◌≤◌, IsTrue, Some};
 ghost use Rattle.labels.specs.Level.{levels, rank};
 ghost use Rattle.readings.specs.Readings.{admitted};
@@ -8,7 +9,7 @@ use crate::Readings;
 use labels::Level;
 use std::fmt;
 
-// The sources are the eight levels. A level admits itself and every level below it.
+/// The sources are the eight levels. A level admits itself and every level below it.
 impl Readings for Level {
     type Words = LevelAndBelow;
 
@@ -50,7 +51,7 @@ impl Readings for Level {
     }
 }
 
-// Shown as `level 3 and below`.
+/// What a level admits, shown as `level 3 and below`.
 #[derive(Clone, Copy, Debug)]
 pub struct LevelAndBelow(pub Level);
 
@@ -62,7 +63,7 @@ impl fmt::Display for LevelAndBelow {
     }
 }
 
-// Shown as `level 3`.
+/// A level by its number, shown as `level 3`.
 #[derive(Clone, Copy, Debug)]
 pub struct OneLevel(pub usize);
 

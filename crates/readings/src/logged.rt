@@ -1,3 +1,4 @@
+// Commands of the log with whose readings they can carry.
 ghost use Rattle.std.specs.Prelude.{Some};
 ghost use Rattle.readings.specs.Logged.{logged_text};
 
@@ -5,7 +6,8 @@ use crate::Readings;
 use machine::Labelled;
 use std::fmt;
 
-// A command in the log, at its place, shown with whose readings it can carry, as `2 65@0003: growers 0 1`.
+/// A command in the log, at its place, shown with whose readings it can carry, as
+/// `2 65@0003: growers 0 1`.
 #[derive(Clone, Copy, Debug, PartialEq, Eq)]
 pub struct Logged<L> {
     pub place: usize,

@@ -1,14 +1,17 @@
+// Whose readings pairs admit: the sources are those of both parts.
 ghost use Rattle.std.specs.Prelude.{◌≡◌, Some};
 ghost use Rattle.labels.specs.Pair.{pairs};
 ghost use Rattle.readings.specs.Readings.{admitted};
-ghost use Rattle.readings.specs.Pairs.{both_counts, part_label, part_admitted, part_names, both_words, both_output, one_part, part_output};
+ghost use Rattle.readings.specs.Pairs.{both_counts, part_label, part_admitted, part_names};
+ghost use Rattle.readings.specs.Pairs.{both_words, both_output, one_part, part_output};
 ghost use Rattle.readings.specs.Counted.{parts_counted};
 
 use crate::Readings;
 use labels::Pair;
 use std::fmt;
 
-// The sources are those of the left kind, and then those of the right one. A pair admits those that its parts do.
+/// The sources are those of the left kind, and then those of the right one. A pair admits those
+/// that its parts do.
 impl<A: Readings, B: Readings> Readings for Pair<A, B> {
     type Words = BothParts<A::Words, B::Words>;
 
@@ -24,7 +27,8 @@ impl<A: Readings, B: Readings> Readings for Pair<A, B> {
 
     ghost source_words = { one_part A.sources A.source_words B.source_words };
 
-    ghost counted = { parts_counted A.kind B.kind A.sources B.sources A.source_label B.source_label A.counted B.counted };
+    ghost counted = { parts_counted A.kind B.kind
+        A.sources B.sources A.source_label B.source_label A.counted B.counted };
 
     // The sum saturates, since nothing bounds how deep pairs are nested.
     fn sources() -> usize {
@@ -32,8 +36,10 @@ impl<A: Readings, B: Readings> Readings for Pair<A, B> {
     }
 
     fn admits(self, source: usize) -> bool
-        ensures admitted { result ≡ admitted (pairs A.kind B.kind) (part_label A.kind B.kind A.sources A.source_label B.source_label source) self }
-        ensures by_parts { result ≡ part_admitted A.kind B.kind A.sources A.source_label B.source_label self source }
+        ensures admitted { result ≡ admitted (pairs A.kind B.kind)
+            (part_label A.kind B.kind A.sources A.source_label B.source_label source) self }
+        ensures by_parts { result ≡ part_admitted A.kind B.kind
+            A.sources A.source_label B.source_label self source }
     {
         match source.checked_sub(A::sources()) {
             None => self.left.admits(source),
@@ -63,7 +69,7 @@ impl<A: Readings, B: Readings> Readings for Pair<A, B> {
     }
 }
 
-// Both parts in words, as `level 3 and below, growers 0 2`.
+/// Both parts in words, shown as `level 3 and below, growers 0 2`.
 #[derive(Clone, Copy, Debug)]
 pub struct BothParts<A, B> {
     pub left: A,
@@ -78,7 +84,7 @@ impl<A: fmt::Display, B: fmt::Display> fmt::Display for BothParts<A, B> {
     }
 }
 
-// A source of one part, as `left level 3` or `right grower 0`.
+/// A source of one part, shown as `left level 3` or `right grower 0`.
 #[derive(Clone, Copy, Debug)]
 pub enum OnePart<A, B> {
     Left(A),

@@ -1,3 +1,4 @@
+-- Lemmas on the cache, the published rows and names.
 pub mod Hits
 pub mod Published
 pub mod Names

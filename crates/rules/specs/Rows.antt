@@ -1,12 +1,12 @@
--- Tables by rows: a row is a set of the letters A, B, C and P for the new label of the program counter and one for the label of
--- the result, each meaning the join of its letters' labels. Assumes nothing.
-use Rattle.std.specs.Prelude.{◌≡◌, ℕ, Bool, true, false, cond, not, ◌&&◌, List, [], ◌∷◌, None, Option, slice_index_or}
+-- Tables by rows: letters for the new label of the program counter, and letters for the result's.
+use Rattle.std.specs.Prelude.{◌≡◌, ℕ, Bool, true, false, cond, List, [], ◌∷◌, None, slice_index_or}
 use Rattle.labels.specs.Kind.{Kind}
-use Rattle.rules.specs.Tables.{Table, Same, verdict}
+use Rattle.rules.specs.Tables.{Table, Same, Truth, Effect, verdict, is_forbidden}
 use Rattle.rules.specs.declared.Opcode.{Opcode}
-use Rattle.rules.specs.declared.Opcode.TheVariants.{Push, Pop, Noop, Add, Sub, Less, Load, Store, Jump, Bnz, Call, Return, Output}
+use Rattle.rules.specs.declared.Opcode.TheVariants.{Push, Pop, Noop, Add, Sub, Less, Load, Store}
+use Rattle.rules.specs.declared.Opcode.TheVariants.{Jump, Bnz, Call, Return, Output}
+use Rattle.rules.specs.declared.Policy.{Ghosts}
 use Rattle.rules.specs.declared.Request.{Request}
-use Rattle.rules.specs.declared.Verdict.{Verdict}
 use Rattle.rules.specs.declared.rows.Letters.{Letters}
 use Rattle.rules.specs.declared.rows.Row.{Row}
 use Rattle.rules.specs.declared.rows.RowTable.{RowTable}
@@ -27,34 +27,22 @@ row_index Call = 10
 row_index Return = 11
 row_index Output = 12
 
-abbrev pub is_store : Opcode → Bool
-is_store Push = false
-is_store Pop = false
-is_store Noop = false
-is_store Add = false
-is_store Sub = false
-is_store Less = false
-is_store Load = false
-is_store Store = true
-is_store Jump = false
-is_store Bnz = false
-is_store Call = false
-is_store Return = false
-is_store Output = false
-
+-- the set that has those of the four letters for which it is true
 abbrev pub letters : Bool → Bool → Bool → Bool → Letters
 letters a b c p = record { a = a; b = b; c = c; p = p }
 
-abbrev pub row_of : Letters → Letters → Row
-row_of n r = record { pc = n; result = r }
-
 abbrev pub no_letters : Letters
 no_letters = letters false false false false
+
+-- the row with letters n for the program counter and r for the result
+abbrev pub row_of : Letters → Letters → Row
+row_of n r = record { pc = n; result = r }
 
 -- the row of an operation
 abbrev pub row_at : List Row → Opcode → Row
 row_at rows op = slice_index_or rows (row_index op) (row_of no_letters no_letters)
 
+-- the published rows, in the order of the operations
 abbrev pub published_rows : List Row
 published_rows =
     let a = letters true false false false in
@@ -80,20 +68,23 @@ module _ {L : Type 0} (kind : Kind L) where
 
   -- the join of the labels whose letters are in the set
   abbrev pub joined : Letters → Request L → L
-  joined s q = join (join (join (letter s.a q.a) (letter s.b q.b)) (letter s.c q.c)) (letter s.p q.pc)
-
-  -- the condition of store does not hold
-  abbrev pub refused : Request L → Bool
-  refused q = is_store q.op && not (below (join q.a q.pc) q.c)
+  joined s q =
+      join (join (join (letter s.a q.a) (letter s.b q.b)) (letter s.c q.c)) (letter s.p q.pc)
 
   -- the table that rows give
   abbrev pub by_rows : List Row → Table L
-  by_rows rows q = cond (refused q) None (verdict (joined (row_at rows q.op).pc q) (joined (row_at rows q.op).result q))
+  by_rows rows q =
+      let row = row_at rows q.op in
+      cond (is_forbidden kind q) None (verdict (joined row.pc q) (joined row.result q))
 
   -- a policy that reads its rows is true to the table that they give
-  abbrev pub RowsFaithful : RowTable → Table L → Type 0
+  abbrev pub RowsFaithful : Truth RowTable L
   RowsFaithful policy t = Same (by_rows policy.rows) t
 
   -- asked, it reads its rows off and keeps them
-  abbrev pub RowsAsked : RowTable → Request L → Option (Verdict L) → RowTable → Type 0
+  abbrev pub RowsAsked : Effect RowTable L
   RowsAsked before request answer after = (answer ≡ by_rows before.rows request) × (after ≡ before)
+
+  -- what it is true to and what asking it does, as the trait has them
+  abbrev pub rows_policy : Ghosts RowTable L
+  rows_policy = record { faithful = RowsFaithful; asked = RowsAsked }

@@ -1,11 +1,12 @@
--- How operations, requests and verdicts read. Assumes nothing.
+-- How operations, requests and verdicts read.
 use Rattle.std.specs.Prelude.{◌≡◌, ◌≢◌, ℕ, List, ◌++◌, Ok, Err, codes, Result}
 use Rattle.rules.specs.declared.Opcode.{Opcode}
+use Rattle.rules.specs.declared.Opcode.TheVariants.{Push, Pop, Noop, Add, Sub, Less, Load, Store}
+use Rattle.rules.specs.declared.Opcode.TheVariants.{Jump, Bnz, Call, Return, Output}
 use Rattle.rules.specs.declared.Request.{Request}
 use Rattle.rules.specs.declared.Verdict.{Verdict}
-use Rattle.rules.specs.declared.texts.NotAnOperation.{NotAnOperation}
-use Rattle.rules.specs.declared.Opcode.TheVariants.{Push, Pop, Noop, Add, Sub, Less, Load, Store, Jump, Bnz, Call, Return, Output}
 
+-- the name of an operation
 abbrev pub name : Opcode → List ℕ
 name Push = codes "push"
 name Pop = codes "pop"
@@ -21,15 +22,20 @@ name Call = codes "call"
 name Return = codes "return"
 name Output = codes "output"
 
--- which operation's name the word is, or that it is none's
-abbrev pub NameRead : List ℕ → Result Opcode NotAnOperation → Type 0
-NameRead word (Ok op) = word ≡ name op
-NameRead word (Err e) = (op : Opcode) → word ≢ name op
+-- which of the things that have names has the word as its name, or that none has
+abbrev pub NameRead : {X E : Type 0} → (X → List ℕ) → List ℕ → Result X E → Type 0
+NameRead named word (Ok x) = word ≡ named x
+NameRead {X} named word (Err e) = (x : X) → word ≢ named x
 
 module _ {L : Type 0} (text : L → List ℕ) where
+  -- a space and the label
+  abbrev pub spaced : L → List ℕ
+  spaced a = codes " " ++ text a
+
   -- the whole request
   abbrev pub request_text : Request L → List ℕ
-  request_text q = name q.op ++ (codes " " ++ (text q.pc ++ (codes " " ++ (text q.a ++ (codes " " ++ (text q.b ++ (codes " " ++ text q.c)))))))
+  request_text q = name q.op ++ (spaced q.pc ++ (spaced q.a ++ (spaced q.b ++ spaced q.c)))
 
+  -- the label of the program counter and the result's
   abbrev pub verdict_text : Verdict L → List ℕ
   verdict_text v = codes "pc " ++ (text v.pc ++ (codes ", result " ++ text v.result))

@@ -1,18 +1,19 @@
+// The policy that remembers the last request and its answer.
 ghost use Rattle.std.specs.Prelude.{◌≡◌, None};
-ghost use Rattle.rules.specs.Policies.{CachedFaithful, CachedAsked, Named};
+ghost use Rattle.rules.specs.Policies.{CachedFaithful, CachedAsked, cached_policy, Named};
 ghost use Rattle.rules.specs.Tables.{Table, Obeys};
 
 use crate::{Policy, Request, Verdict};
 use labels::Label;
 
-// A request and what was answered.
+/// A request and what was answered.
 #[derive(Clone, Copy, Debug, PartialEq, Eq, Hash)]
 pub struct Memory<L> {
     pub request: Request<L>,
     pub answer: Option<Verdict<L>>,
 }
 
-// A one-line cache over any policy, itself included: it remembers its last request and answer.
+/// A cache of one line over any policy, itself included: it remembers its last request and answer.
 #[derive(Debug, Drop)]
 pub struct Cached<P, L> {
     pub(crate) below: P,
@@ -20,12 +21,13 @@ pub struct Cached<P, L> {
 }
 
 impl<P: Policy<L>, L: Label> Cached<P, L> {
-    // Remembers nothing yet, and is true to whatever table the policy below is true to.
+    /// A cache that remembers nothing yet, true to whatever table the policy below is true to.
     pub fn new(below: P) -> Cached<P, L>
         ensures below { result.below ≡ below }
         ensures empty { result.last ≡ None }
-        ensures named { Named ⟦<Cached<P, L> as Policy<L>>⟧.faithful (CachedFaithful P.Policy.faithful) ⟦<Cached<P, L> as Policy<L>>⟧.asked (CachedAsked P.Policy.asked) }
-        ensures faithful { (t : Table L) → P.Policy.faithful below t → CachedFaithful P.Policy.faithful result t }
+        ensures named { Named ⟦<Cached<P, L> as Policy<L>>⟧ (cached_policy P.Policy) }
+        ensures faithful { (t : Table L) → P.Policy.faithful below t
+            → CachedFaithful P.Policy.faithful result t }
     {
         Cached { below, last: None }
     }

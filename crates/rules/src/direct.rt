@@ -1,19 +1,20 @@
+// The policy that works the published rows out.
 ghost use Rattle.std.specs.Prelude.{◌≡◌};
-ghost use Rattle.rules.specs.Policies.{DirectFaithful, DirectAsked, Named};
+ghost use Rattle.rules.specs.Policies.{DirectFaithful, DirectAsked, direct_policy, Named};
 ghost use Rattle.rules.specs.Tables.{Obeys, published};
 
 use crate::{Opcode, Policy, Request, Verdict};
 use labels::Label;
 
-// The policy that works the published rows out.
+/// The policy that works the published rows out at each request.
 #[derive(Clone, Copy, Debug, PartialEq, Eq, Hash)]
 pub struct Direct {}
 
 impl Direct {
-    // True to the published rows, for labels of kind L.
+    /// The policy, true to the published rows for labels of kind `L`.
     pub fn new<L: Label>() -> Direct
         ensures faithful { DirectFaithful L.Label.kind result (published L.Label.kind) }
-        ensures named { Named ⟦<Direct as Policy<L>>⟧.faithful (DirectFaithful L.Label.kind) ⟦<Direct as Policy<L>>⟧.asked (DirectAsked L.Label.kind) }
+        ensures named { Named ⟦<Direct as Policy<L>>⟧ (direct_policy L.Label.kind) }
     {
         Direct {}
     }
@@ -37,7 +38,7 @@ impl<L: Label> Policy<L> for Direct {
 fn work_out<L: Label>(request: Request<L>) -> Option<Verdict<L>>
     ensures { result ≡ published L.Label.kind request }
 {
-    if request.is_refused() {
+    if request.is_forbidden() {
         return None;
     }
     let Request {

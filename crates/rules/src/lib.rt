@@ -1,11 +1,10 @@
-// Rule policies: which labels an operation gives its results and the program counter, or that it is forbidden.
+// Rule policies: which labels an operation gives its result and the program counter, if any.
 #![tactic(auto)]
 
 ghost use Rattle.std.specs.Prelude.{◌≡◌, ◌↔◌, IsTrue, Option};
-ghost use Rattle.rules.specs.Rows.{refused};
+ghost use Rattle.rules.specs.Tables.{Table, Obeys, is_forbidden};
 ghost use Rattle.rules.specs.declared.Request.{Request};
 ghost use Rattle.rules.specs.declared.Verdict.{Verdict};
-ghost use Rattle.rules.specs.Tables.{Table, Obeys};
 
 use labels::{Label, same};
 
@@ -19,7 +18,7 @@ pub use direct::Direct;
 pub use rows::{Letters, Row, RowTable};
 pub use texts::NotAnOperation;
 
-// The operations that ask a policy.
+/// The operations that ask a policy.
 #[derive(Clone, Copy, Debug, PartialEq, Eq, Hash)]
 pub enum Opcode {
     Push,
@@ -37,7 +36,8 @@ pub enum Opcode {
     Output,
 }
 
-// What a policy is asked: an operation, the label of the program counter, and up to three labels more, the unused ones bottom.
+/// What a policy is asked: an operation, the label of the program counter, and up to three labels
+/// more, the unused ones bottom.
 #[derive(Clone, Copy, Debug, PartialEq, Eq, Hash)]
 pub struct Request<L> {
     pub op: Opcode,
@@ -47,31 +47,33 @@ pub struct Request<L> {
     pub c: L,
 }
 
-// What a policy answers: the new label of the program counter and the label of the result.
+/// What a policy answers: the new label of the program counter and the label of the result.
 #[derive(Clone, Copy, Debug, PartialEq, Eq, Hash)]
 pub struct Verdict<L> {
     pub pc: L,
     pub result: L,
 }
 
+/// A policy, which says for each request which labels come out, or forbids it.
 pub trait Policy<L: Label> {
-    // Whether what the policy holds makes it true to a table.
+    /// Whether what the policy holds makes it true to a table.
     ghost faithful: { Self → Table L → Type 0 };
 
-    // What being asked does: the policy before, the request, the answer and the policy after.
+    /// What asking does: the policy before, the request, the answer and the policy after.
     ghost asked: { Self → Request L → Option (Verdict L) → Self → Type 0 };
 
-    // The verdict on a request, or none, which forbids. Each `impl` writes the clauses again: where a parameter's type has
-    // the trait's own parameter, the check cannot give a method the clauses of its trait yet.
-    // Each is inlined where it is asked, since the operation is known there.
+    // Each `impl` writes the clauses again: where a parameter's type has the trait's own parameter,
+    // the check cannot give a method the clauses of its trait yet. Those of this crate are inlined
+    // where they are asked, since the operation is known there.
+    /// The verdict on a request. None forbids it.
     fn rule(&mut self, request: Request<L>) -> Option<Verdict<L>>
         ensures obeys { Obeys faithful self.old request result self.new }
         ensures asked { asked self.old request result self.new };
 }
 
 impl<L: Label> Request<L> {
-    // Whether two requests are the same, for every kind of label. The derived `==` asks for one whose labels have a `==`, and says
-    // nothing of identity.
+    /// Whether two requests are the same, for every kind of label. The derived `==` asks for one
+    /// whose labels have a `==`, and says nothing of identity.
     pub fn same_as(self, other: Request<L>) -> bool
         ensures { IsTrue result ↔ (self ≡ other) }
     {
@@ -82,9 +84,10 @@ impl<L: Label> Request<L> {
             && same(self.c, other.c)
     }
 
-    // Whether it asks to store where the labels of the address and the program counter may not flow to the cell's.
-    pub(crate) fn is_refused(self) -> bool
-        ensures { result ≡ refused L.Label.kind self }
+    // Whether it asks to store where the labels of the address and the program counter may not flow
+    // to the cell's.
+    pub(crate) fn is_forbidden(self) -> bool
+        ensures { result ≡ is_forbidden L.Label.kind self }
     {
         self.op == Opcode::Store && !self.a.join(self.pc).flows_to(self.c)
     }

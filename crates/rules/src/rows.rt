@@ -1,12 +1,15 @@
+// The policy that reads its rows off a table.
 ghost use Rattle.std.specs.Prelude.{◌≡◌};
-ghost use Rattle.rules.specs.Rows.{letter, joined, row_of, published_rows, RowsFaithful, RowsAsked};
 ghost use Rattle.rules.specs.Policies.{Named};
+ghost use Rattle.rules.specs.Rows.{letter, joined, row_of, published_rows};
+ghost use Rattle.rules.specs.Rows.{RowsFaithful, RowsAsked, rows_policy};
 ghost use Rattle.rules.specs.Tables.{Obeys, published};
 
 use crate::{Policy, Request, Verdict};
 use labels::Label;
 
-// A set of the letters of a request's labels: A, B, C, and P for the program counter's. It means their join.
+/// A set of the letters of a request's labels: A, B, C, and P for the program counter's. It means
+/// their join.
 #[derive(Clone, Copy, Debug, PartialEq, Eq, Hash)]
 pub struct Letters {
     pub a: bool,
@@ -15,25 +18,27 @@ pub struct Letters {
     pub p: bool,
 }
 
-// What an operation's labels are: the letters of the program counter's new label and those of the result's.
+/// What an operation's labels are: the letters of the program counter's new label, and those of the
+/// result's.
 #[derive(Clone, Copy, Debug, PartialEq, Eq, Hash)]
 pub struct Row {
     pub pc: Letters,
     pub result: Letters,
 }
 
-// The policy that reads its rows off a table, one row for each operation. The condition of store is fixed.
+/// The policy that reads its rows off a table, one row for each operation. The condition of store
+/// is fixed.
 #[derive(Clone, Copy, Debug, PartialEq, Eq, Hash)]
 pub struct RowTable {
     rows: [Row; 13],
 }
 
 impl RowTable {
-    // Holds the published rows, and is true to them, for labels of kind L.
+    /// The policy that holds the published rows, true to them for labels of kind `L`.
     pub fn new<L: Label>() -> RowTable
         ensures rows { result.rows ≡ published_rows }
         ensures faithful { RowsFaithful L.Label.kind result (published L.Label.kind) }
-        ensures named { Named ⟦<RowTable as Policy<L>>⟧.faithful (RowsFaithful L.Label.kind) ⟦<RowTable as Policy<L>>⟧.asked (RowsAsked L.Label.kind) }
+        ensures named { Named ⟦<RowTable as Policy<L>>⟧ (rows_policy L.Label.kind) }
     {
         RowTable {
             rows: published_rows(),
@@ -51,10 +56,10 @@ impl<L: Label> Policy<L> for RowTable {
         ensures obeys { Obeys (RowsFaithful L.Label.kind) self.old request result self.new }
         ensures asked { RowsAsked L.Label.kind self.old request result self.new }
     {
-        if request.is_refused() {
+        if request.is_forbidden() {
             return None;
         }
-        // An operation's number is its row's place: a map or a match would say the same at more length.
+        // An operation's number is its row's place: a map or a match would say no more, at length.
         let row = self.rows[request.op as usize];
         Some(Verdict {
             pc: join_of(row.pc, request),
@@ -72,7 +77,8 @@ fn join_of<L: Label>(set: Letters, request: Request<L>) -> L
         .join(pick(set.p, request.pc))
 }
 
-// The label if its letter is in the set, else bottom. The letter stands in a row and the label in a request, and an Option made of the two would be no plainer.
+// The label if its letter is in the set, else bottom. The letter stands in a row and the label in a
+// request, and an Option made of the two would be no plainer.
 fn pick<L: Label>(present: bool, label: L) -> L
     ensures { result ≡ letter L.Label.kind present label }
 {

@@ -26,6 +26,7 @@ const ALL: [Opcode; 13] = [
 ];
 
 impl Opcode {
+    /// The operation's name, in small letters.
     pub fn name(self) -> &'static str
         ensures { result.now ≡ name self }
     {
@@ -55,15 +56,16 @@ impl fmt::Display for Opcode {
     }
 }
 
-// A word that is no operation's name.
+/// What a word that is no operation's name is read as.
 #[derive(Clone, Copy, Debug, PartialEq, Eq, Hash)]
 pub struct NotAnOperation;
 
 impl FromStr for Opcode {
     type Err = NotAnOperation;
 
-    ghost from_str_gives = { NameRead };
+    ghost from_str_gives = { NameRead name };
 
+    /// The operation of that name. Refuses every word that is no operation's name.
     fn from_str(word: &str) -> Result<Opcode, NotAnOperation> {
         ALL.iter()
             .find(|op| op.name() == word)

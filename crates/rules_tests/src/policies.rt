@@ -1,4 +1,4 @@
-// Policies by the published rows, how often a cache asks, and the texts of operations, requests and verdicts.
+// Policies by the published rows, how often a cache asks, and texts.
 ghost use Rattle.labels.specs.Level.{levels};
 ghost use Rattle.rules.specs.Policies.{DirectFaithful, DirectAsked};
 ghost use Rattle.rules.specs.Tables.{Obeys};
@@ -29,6 +29,7 @@ fn stores<P: Policy<Level>>(rt: &impl Abort, policy: &mut P) {
     assert!(rt; by_pc.is_none());
 }
 
+// A call joins the target's label to the program counter's, and a return sets the caller's again.
 fn calls<P: Policy<Level>>(rt: &impl Abort, policy: &mut P) {
     let call = policy.rule(request(Opcode::Call, Level::L0, Level::L5, Level::L0, Level::L0));
     assert!(rt; is(call, Level::L5, Level::L0));
@@ -70,7 +71,8 @@ impl Policy<Level> for Counting<'_> {
     ghost asked = { λ p q r s. DirectAsked levels p.direct q r s.direct };
 
     fn rule(&mut self, request: Request<Level>) -> Option<Verdict<Level>>
-        ensures obeys { Obeys (DirectFaithful levels) self.old.direct request result self.new.direct }
+        ensures obeys { Obeys (DirectFaithful levels)
+            self.old.direct request result self.new.direct }
         ensures asked { DirectAsked levels self.old.direct request result self.new.direct }
     {
         self.count.set(self.count.get().saturating_add(1));

@@ -1,2 +1,3 @@
+-- Lemmas on lines and on questions read word by word.
 pub mod Lines
 pub mod ByWord

@@ -1,3 +1,4 @@
+-- What the contracts cite: words, questions and answers.
 pub mod Words
 pub mod Questions
 pub mod Answers

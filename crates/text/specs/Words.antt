@@ -1,8 +1,9 @@
--- Lines: what stands before a comment, and the words. Assumes nothing.
-use Rattle.std.specs.Prelude.{◌≡◌, ℕ, Bool, true, false, cond, ◌||◌, List, [], ◌∷◌, Some, None, Option, ◌==◌, ◌≢◌}
+-- Lines: what stands before a comment, and the words.
+use Rattle.std.specs.Prelude.{◌≡◌, ◌≢◌, ℕ, ◌==◌, Bool, true, false, ◌||◌, cond}
+use Rattle.std.specs.Prelude.{List, [], ◌∷◌, Some, None, Option}
 use Rattle.std.specs.Borrow.{Bor}
 
--- a comment begins with the first `#`
+-- the line up to its comment, which begins with the first `#`
 abbrev pub uncommented : List ℕ → List ℕ
 uncommented [] = []
 uncommented (b ∷ bs) = cond (b == 35) [] (b ∷ uncommented bs)
@@ -19,8 +20,11 @@ word (b ∷ bs) = cond (blank b) [] (b ∷ word bs)
 -- the words of bs; with `on`, bs goes on a word already begun, which is left out
 abbrev pub words_in : Bool → List ℕ → List (List ℕ)
 words_in on [] = []
-words_in on (b ∷ bs) = cond (blank b) (words_in false bs) (cond on (words_in true bs) (word (b ∷ bs) ∷ words_in true bs))
+words_in on (b ∷ bs) =
+    cond (blank b) (words_in false bs)
+    (cond on (words_in true bs) (word (b ∷ bs) ∷ words_in true bs))
 
+-- the words of a line
 abbrev pub words : List ℕ → List (List ℕ)
 words = words_in false
 

@@ -1,3 +1,4 @@
+// Rule questions: how they are read, answered and written.
 ghost use Rattle.std.specs.Prelude.{Some};
 ghost use Rattle.text.specs.Answers.{Answers, AnswersByTable, answer_text};
 ghost use Rattle.text.specs.Questions.{NamesOperation, NextLabel, ReadsQuestion};
@@ -8,7 +9,8 @@ use labels::Label;
 use rules::{Opcode, Policy, Request, Verdict};
 use std::fmt;
 
-// What is wrong with a question: the word that is no operation's name, or no label's text, or one too many.
+/// What is wrong with a question: the word that is no operation's name, or no label's text, or one
+/// too many.
 #[derive(Clone, Copy, Debug, PartialEq, Eq, Hash)]
 pub enum Fault<'a> {
     Operation(&'a str),
@@ -16,20 +18,21 @@ pub enum Fault<'a> {
     Extra(&'a str),
 }
 
-// A question and its verdict.
+/// A question and its verdict, shown as the whole request and then the verdict or `forbidden`.
 #[derive(Clone, Copy, Debug, PartialEq, Eq, Hash)]
 pub struct Answer<L> {
     pub request: Request<L>,
     pub verdict: Option<Verdict<L>>,
 }
 
-// The answer to the question on a line, if there is one; `#` begins a comment.
+/// The answer to the question on a line, if there is one; `#` begins a comment. Refuses a line with
+/// a wrong word, and then, as without a question, the policy is not asked.
 pub fn answer_line<'a, P: Policy<L>, L: Label>(
     policy: &mut P,
     line: &'a str,
 ) -> Result<Option<Answer<L>>, Fault<'a>>
-    ensures answers { Answers L.Label.text L.Label.kind.bottom P.Policy.asked line.now policy.old result policy.new }
-    ensures told { AnswersByTable P.Policy.faithful policy.old result policy.new }
+    ensures answers { Answers L.Label.own P.Policy line.now policy.old result policy.new }
+    ensures told { AnswersByTable P.Policy policy.old result policy.new }
 {
     let Some(request) = read_request(before_comment(line))? else {
         return Ok(None);
@@ -38,14 +41,16 @@ pub fn answer_line<'a, P: Policy<L>, L: Label>(
     Ok(Some(Answer { request, verdict }))
 }
 
-// The question that the words ask, if there are any: an operation and up to four labels, P, A, B and C. Those left out are bottom.
+/// The question that a line's words ask, if it has any: an operation and up to four labels, the
+/// program counter's, A, B and C. Those left out are bottom. Refuses a line with a wrong word.
 pub fn read_request<L: Label>(line: &str) -> Result<Option<Request<L>>, Fault<'_>>
-    ensures { ReadsQuestion L.Label.text L.Label.kind.bottom line.now result }
+    ensures { ReadsQuestion L.Label.own line.now result }
 {
     let Some((word, rest)) = next_word(line) else {
         return Ok(None);
     };
-    // Each word is read by a call of its own: a loop over the words would have to say which of the four labels is due.
+    // Each word is read by a call of its own: a loop over the words would have to say which of the
+    // four labels is due.
     let op = operation_named(word)?;
     let (pc, rest) = next_label(rest)?;
     let (a, rest) = next_label(rest)?;
@@ -66,7 +71,7 @@ fn operation_named(word: &str) -> Result<Opcode, Fault<'_>>
 
 // The next label, bottom where no word is left, and what comes after it.
 fn next_label<L: Label>(line: &str) -> Result<(L, &str), Fault<'_>>
-    ensures { NextLabel L.Label.text L.Label.kind.bottom line.now result }
+    ensures { NextLabel L.Label.own line.now result }
 {
     let Some((word, rest)) = next_word(line) else {
         return Ok((L::bottom(), line));
@@ -75,7 +80,8 @@ fn next_label<L: Label>(line: &str) -> Result<(L, &str), Fault<'_>>
     Ok((label, rest))
 }
 
-// The label whose text the word is, if any. Not by `FromStr`, which every kind of label would have to write beside `read`.
+/// The label whose text the word is, if any. Not by `FromStr`, which every kind of label would have
+/// to write beside `read`.
 pub fn label_named<L: Label>(word: &str) -> Option<L>
     ensures { Names L.Label.text word.now result }
 {

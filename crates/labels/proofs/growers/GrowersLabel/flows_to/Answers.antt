@@ -1,3 +1,4 @@
+-- The test of the masks is inclusion.
 use Rattle.labels.proofs.Members.{inclusion}
 use Rattle.labels.proofs.growers.GrowersLabel.flows_to.Goals as goal
 

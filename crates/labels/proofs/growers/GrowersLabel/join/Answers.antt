@@ -1,3 +1,4 @@
+-- The union of the masks has the growers of both.
 use Rattle.labels.proofs.Members.{union_has}
 use Rattle.labels.proofs.growers.GrowersLabel.join.Goals as goal
 

@@ -1,3 +1,4 @@
+-- A set admits the grower that it names.
 use Rattle.std.proofs.Common.{◌∙◌}
 use Rattle.readings.proofs.Alone.{alone_admitted}
 use Rattle.readings.proofs.growers.GrowersReadings.admits.Goals as goal

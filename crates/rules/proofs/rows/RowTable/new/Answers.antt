@@ -1,3 +1,4 @@
+-- The rows that it holds give the published table.
 use Rattle.rules.proofs.Published.{rows_published}
 use Rattle.rules.proofs.rows.RowTable.new.Goals as goal
 

@@ -1,3 +1,4 @@
+-- The operation that the search for the word found.
 use Rattle.std.proofs.Common.{rules, ◌≡◌, ◌≢◌}
 use Rattle.std.proofs.lemmas.Iterator.{YieldsList-from_slice, first_from_find}
 use Rattle.std.proofs.lemmas.Slice.Eq.{bytes_eq-Decides}
@@ -10,6 +11,7 @@ returns c =
     let word = c.args.word.now in
     rw (c.ok_or.ensures.value, c.copied.ensures)
     (found word c.find.result _
-    (first_from_find _ _ c.find.result (λ op. name op ≡ word) (λ op. name op ≢ word) c.find.ensures.ran (YieldsList-from_slice every c.iter.ensures.rest)
+    (first_from_find _ _ c.find.result (λ op. name op ≡ word) (λ op. name op ≢ word)
+    c.find.ensures.ran (YieldsList-from_slice every c.iter.ensures.rest)
     (λ x q k. search (rules, bytes_eq-Decides))
     (λ x q k. search (rules, bytes_eq-Decides))))
