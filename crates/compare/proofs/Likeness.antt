@@ -1,46 +1,22 @@
--- Operations, numbers and written calls that are alike to an observer.
-use Rattle.std.proofs.Common.{◌≡◌, Bool, true, false, ℕ, pos, refl, sym, ap, ◌∙◌, inl}
+-- Operations, numbers and calls that are alike to an observer.
+use Rattle.std.proofs.Common.{◌≡◌, ◌↔◌, IsTrue, Bool, true, false, not, ℕ, pos, List, [], ◌∷◌, refl, sym, ap, ◌∙◌, inl}
 use Rattle.labels.specs.Kind.{Kind}
-use Rattle.machine.specs.Observer.{Alike, AlikeOperation, same_operation, alike_push}
+use Rattle.machine.specs.Calls.{Input, enters, is_some_input}
+use Rattle.machine.specs.Lists.{Each, none, more}
+use Rattle.machine.specs.Observer.{Alike, AlikeOperation, same_operation, alike_push, AlikeInput, alike_enter}
 use Rattle.machine.specs.declared.parts.Labelled.{Labelled}
 use Rattle.machine.specs.declared.parts.Operation.{Operation}
 use Rattle.machine.specs.declared.parts.Operation.TheVariants.{Push, Pop, Noop, Add, Sub, Less, Load, Store, Jump, Bnz, Call, Return, Output, Halt}
-use Rattle.sites.specs.declared.calls.Call.TheVariants.{Enter}
-use Rattle.compare.specs.Reports.{AlikeInput, alike_enter}
 use Rattle.compare.specs.Tests.{without_number}
 
 abbrev pub is_push : {X : Type 0} → Operation X → Bool
 is_push (Push v) = true
-is_push Pop = false
-is_push Noop = false
-is_push Add = false
-is_push Sub = false
-is_push Less = false
-is_push Load = false
-is_push Store = false
-is_push Jump = false
-is_push (Bnz k) = false
-is_push (Call count due) = false
-is_push Return = false
-is_push Output = false
-is_push Halt = false
+is_push op = false
 
 -- Without its number a push is still one, and no other operation is.
 still_push : {L : Type 0} (op : Operation L) → is_push (without_number op) ≡ is_push op
 still_push (Push v) = refl
-still_push Pop = refl
-still_push Noop = refl
-still_push Add = refl
-still_push Sub = refl
-still_push Less = refl
-still_push Load = refl
-still_push Store = refl
-still_push Jump = refl
-still_push (Bnz k) = refl
-still_push (Call count due) = refl
-still_push Return = refl
-still_push Output = refl
-still_push Halt = refl
+still_push op = refl
 
 -- Any other operation is told from the others without its number.
 abbrev pub put_back : {L : Type 0} → Labelled L → Operation Bool → Operation L
@@ -61,19 +37,7 @@ put_back v Halt = Halt
 
 as_it_was : {L : Type 0} (v : Labelled L) (op : Operation L) → is_push op ≡ false → put_back v (without_number op) ≡ op
 as_it_was v (Push w) never = cc
-as_it_was v Pop never = refl
-as_it_was v Noop never = refl
-as_it_was v Add never = refl
-as_it_was v Sub never = refl
-as_it_was v Less never = refl
-as_it_was v Load never = refl
-as_it_was v Store never = refl
-as_it_was v Jump never = refl
-as_it_was v (Bnz k) never = refl
-as_it_was v (Call count due) never = refl
-as_it_was v Return never = refl
-as_it_was v Output never = refl
-as_it_was v Halt never = refl
+as_it_was v op never = refl
 
 module _ {L : Type 0} (kind : Kind L) (o : L) where
   -- Of operations that are not both pushes, alike ones are the same without their numbers.
@@ -86,19 +50,7 @@ module _ {L : Type 0} (kind : Kind L) (o : L) where
 
   never_push : (op : Operation L) → ((v : Labelled L) → (op ≡ Push v) → ⊥) → is_push op ≡ false
   never_push (Push v) never = absurd (never v refl)
-  never_push Pop never = refl
-  never_push Noop never = refl
-  never_push Add never = refl
-  never_push Sub never = refl
-  never_push Less never = refl
-  never_push Load never = refl
-  never_push Store never = refl
-  never_push Jump never = refl
-  never_push (Bnz k) never = refl
-  never_push (Call count due) never = refl
-  never_push Return never = refl
-  never_push Output never = refl
-  never_push Halt never = refl
+  never_push op never = refl
 
   -- a number to put back, whichever
   any : Labelled L
@@ -115,5 +67,12 @@ module _ {L : Type 0} (kind : Kind L) (o : L) where
   alike_number v w same_operation = inl refl
   alike_number v w (alike_push a) = a
 
-  pub entered_alike : (cell other : ℕ) (v w : Labelled L) → AlikeInput kind o (Enter cell v) (Enter other w) → Alike kind o v w
-  entered_alike cell other v w (alike_enter a) = a
+  -- Calls are alike if each stands for one enter, and these are alike.
+  pub entered_alike : (cell other : ℕ) (v w : Labelled L) → Each (AlikeInput kind o) (enters cell v ∷ []) (enters other w ∷ []) → Alike kind o v w
+  entered_alike cell other v w (more (alike_enter a) none) = a
+
+  -- Calls that stand for no enter or start are alike, and such a call is alike to no other.
+  pub neither : (is js : List (Input L)) → is_some_input is ≡ false → (b : Bool) → b ≡ is_some_input js → IsTrue (not b) ↔ Each (AlikeInput kind o) is js
+  neither [] [] never b tested = (λ _. none, λ _. ap not tested)
+  neither [] (j ∷ js) never b tested = (λ no. cc (sym (ap not tested) ∙ no), λ each. elim each [ ])
+  neither (i ∷ is) js never b tested = cc never

@@ -6,11 +6,11 @@ use Rattle.machine.specs.Stations.{Station, Answer, shows, refused, Idle, looked
 use Rattle.machine.specs.Steps.{element}
 use Rattle.machine.specs.declared.answers.Refusal.{Refusal}
 use Rattle.machine.specs.declared.answers.Refusal.TheVariants.{Cell, Clearance}
+use Rattle.machine.specs.declared.calls.Call.TheVariants.{Look}
 use Rattle.machine.specs.declared.parts.Labelled.{Labelled}
 use Rattle.sites.specs.Calls.{Sited, Does, Says}
-use Rattle.sites.specs.declared.calls.Call.TheVariants.{Look}
-use Rattle.sites.specs.declared.calls.Reply.{Reply}
-use Rattle.sites.specs.declared.calls.Reply.TheVariants as reply
+use Rattle.sites.specs.declared.replies.Reply.{Reply}
+use Rattle.sites.specs.declared.replies.Reply.TheVariants as reply
 use Rattle.compare.specs.Reports.{look_at, SameBelow}
 use Rattle.compare.specs.Tests.{SameLook, same_shown, same_refused}
 
@@ -98,7 +98,7 @@ module _ {L : Type 0} (kind : Kind L) (o : L) where
 
   -- the reply to a look into an idle station
   pub look_says : (site : Sited L) (cell : ℕ) (r : Reply L) → Idle site.station → Does kind (λ _. Unit {0}) site (Look cell o) site r → Says r (look_at kind o site cell) site.station
-  look_says site cell r idle does = (does.taken (λ _. None) tt idle).says
+  look_says site cell r idle does = (does.taken (λ _. None) (λ _. tt) idle).says
 
 module _ {L : Type 0} {kind : Kind L} (laws : Lawful kind) (o clearance : L) (low : kind.below clearance o ≡ true) where
   hidden_below : (v : Labelled L) → kind.below v.label o ≡ false → looked kind clearance v ≡ refused Clearance

@@ -25,15 +25,15 @@ pub returns-clause-secrecy : goal.returns-clause-secrecy
 returns-clause-secrecy g c true_one true_two alike_stations alike_calls =
     let kind = g.L.Label.kind in
     nothing_differs kind c.args.level g.met.L.Label.lawful _ _ _ _ _ _
-    (past kind g.P.Policy.faithful c.args.one c.in-Ok.one true_one c.in-Ok.ensures)
-    (past kind g.Q.Policy.faithful c.args.two c.in-Ok-run.two true_two c.in-Ok-run.ensures)
+    (past kind g.P.Policy c.args.one c.in-Ok.one true_one c.in-Ok.ensures)
+    (past kind g.Q.Policy c.args.two c.in-Ok-run.two true_two c.in-Ok-run.ensures)
     (returns-clause-compares g c).report alike_stations alike_calls
 
 pub returns-clause-told : goal.returns-clause-told
 returns-clause-told g c true_one true_two alike =
     let kind = g.L.Label.kind in
-    let one = past kind g.P.Policy.faithful c.args.one c.in-Ok.one true_one c.in-Ok.ensures in
-    let two = past kind g.Q.Policy.faithful c.args.two c.in-Ok-run.two true_two c.in-Ok-run.ensures in
+    let one = past kind g.P.Policy c.args.one c.in-Ok.one true_one c.in-Ok.ensures in
+    let two = past kind g.Q.Policy c.args.two c.in-Ok-run.two true_two c.in-Ok-run.ensures in
     let report = (returns-clause-compares g c).report in
     let alike_stations : AlikeStations kind c.args.level (history kind c.args.one.parts c.in-Ok.one.exchanges.items) (history kind c.args.two.parts c.in-Ok-run.two.exchanges.items)
     = (
@@ -41,5 +41,5 @@ returns-clause-told g c true_one true_two alike =
       subst (Breaks (Each (Alike kind c.args.level)) c.args.one.parts.memory.items c.args.two.parts.memory.items) alike.1 report.memories,
     ) in
     nothing_differs kind c.args.level g.met.L.Label.lawful _ _ _ _ _ _ one two report alike_stations
-    (calls_alike kind c.args.level g.met.L.Label.lawful _ _ _ _ _ _ one two alike_stations
+    (calls_alike kind c.args.level g.met.L.Label.lawful _ _ _ _ _ _ one two
     (subst (Breaks (OneBegins (AlikeExchange kind c.args.level)) (filter counts c.in-Ok.one.exchanges.items) (filter counts c.in-Ok-run.two.exchanges.items)) alike.2 report.calls))
