@@ -9,7 +9,7 @@ use Rattle.std.proofs.lemmas.List.{length-map, get_or-set_same, get_or-set_other
 use Rattle.std.proofs.lemmas.List.Elements.{Contains-append_left, Contains-append_right, Contains-append_cases, Contains-get_or}
 use Rattle.machine.specs.declared.parts.Labelled.{Labelled}
 use Rattle.sheets.specs.declared.reader.Given.{Given}
-use Rattle.sheets.specs.Lines.{Counts}
+use Rattle.sheets.specs.Lines.{SaysCount}
 use Rattle.sheets.specs.Numbers.{CountRead}
 use Rattle.sheets.specs.Settings.{IsSetting, AreSettings, SomeLine, OnlySaid, BeginsOther, NoLine, GivenOr, GivesCount, SaysCell, GivesCell, AddsSetting, SaysSettings, Settles}
 use Rattle.sheets.specs.Parts.{zero_at}
@@ -72,17 +72,17 @@ only_more ws w first P (some, each) other = (
 
 -- the number that a line so far gives behind the name, if one begins with it
 abbrev pub CountSaid : List (List (List ℕ)) → List ℕ → Option ℕ → Type 0
-CountSaid ws name (Some n) = OnlySaid ws (name ∷ []) (λ line. Counts 65535 line name n)
+CountSaid ws name (Some n) = OnlySaid ws (name ∷ []) (λ line. SaysCount 65535 line name n)
 CountSaid ws name None = NoLine ws (name ∷ [])
 
 count_stays : (ws : List (List (List ℕ))) (w : List (List ℕ)) (name : List ℕ) (o : Option ℕ) → CountSaid ws name o → BeginsOther (name ∷ []) w → CountSaid (ws ++ w ∷ []) name o
-count_stays ws w name (Some n) said other = only_more ws w (name ∷ []) (λ line. Counts 65535 line name n) said other
+count_stays ws w name (Some n) said other = only_more ws w (name ∷ []) (λ line. SaysCount 65535 line name n) said other
 count_stays ws w name None said other = no_more ws w (name ∷ []) said other
 
 count_more : (ws : List (List (List ℕ))) (w : List (List ℕ)) (name : List ℕ) (o p : Option ℕ) → CountSaid ws name o → GivesCount w name o p → CountSaid (ws ++ w ∷ []) name p
 count_more ws w name o p said gives =
     ⊎_elim
-    (λ (n, says, was, is). let none : NoLine ws (name ∷ []) = subst (λ q. CountSaid ws name q) was said in subst (λ q. CountSaid (ws ++ w ∷ []) name q) (sym is) (only_first ws w (name ∷ []) (λ line. Counts 65535 line name n) none says))
+    (λ (n, says, was, is). let none : NoLine ws (name ∷ []) = subst (λ q. CountSaid ws name q) was said in subst (λ q. CountSaid (ws ++ w ∷ []) name q) (sym is) (only_first ws w (name ∷ []) (λ line. SaysCount 65535 line name n) none says))
     (λ (other, is). subst (λ q. CountSaid (ws ++ w ∷ []) name q) (sym is) (count_stays ws w name o said other))
     gives
 
@@ -158,13 +158,13 @@ module _ {L : Type 0} (text : L → List ℕ) where
   cell_held ws bottom c (Some u) v said e = inl (subst (λ z. OnlySaid ws (codes "cell" ∷ decimal c ∷ []) (λ line. SaysCell text line c z)) (sym e) said)
   cell_held ws bottom c None v said e = inr (e, said)
 
-  size_said : (ws : List (List (List ℕ))) (memory : Option ℕ) (n : ℕ) → n ≡ unwrap_or memory 0 → IsSome memory → IfSome memory (λ m. SomeLine ws (λ line. Counts 65535 line (codes "memory") m))
-      → SomeLine ws (λ line. Counts 65535 line (codes "memory") n)
+  size_said : (ws : List (List (List ℕ))) (memory : Option ℕ) (n : ℕ) → n ≡ unwrap_or memory 0 → IsSome memory → IfSome memory (λ m. SomeLine ws (λ line. SaysCount 65535 line (codes "memory") m))
+      → SomeLine ws (λ line. SaysCount 65535 line (codes "memory") n)
   size_said ws None n e there said = absurd (cc there)
-  size_said ws (Some m) n e there said = subst (λ k. SomeLine ws (λ line. Counts 65535 line (codes "memory") k)) (sym e) said
+  size_said ws (Some m) n e there said = subst (λ k. SomeLine ws (λ line. SaysCount 65535 line (codes "memory") k)) (sym e) said
 
   pub all_settled : (bottom : L) (memory : Option ℕ) (ws : List (List (List ℕ))) (given : Given L) → AllSaid memory ws given
-      → IfSome memory (λ m. SomeLine ws (λ line. Counts 65535 line (codes "memory") m))
+      → IfSome memory (λ m. SomeLine ws (λ line. SaysCount 65535 line (codes "memory") m))
       → (s : Settings L) → Settles bottom memory given s → SaysSettings text bottom ws s.memory.items s.stack s.log
   all_settled bottom memory ws given said sized s settles =
       let cell : Option (Labelled L) → Labelled L = λ o. unwrap_or o (zero_at bottom) in

@@ -14,14 +14,14 @@ abbrev pub Alone : List (List ℕ) → List ℕ → Type 0
 Alone line name = line ≡ name ∷ []
 
 -- a word, and a number up to `most` behind it
-abbrev pub Counts : ℕ → List (List ℕ) → List ℕ → ℕ → Type 0
-Counts most line name n = (word : List ℕ) × (line ≡ name ∷ word ∷ []) × CountRead most word n
+abbrev pub SaysCount : ℕ → List (List ℕ) → List ℕ → ℕ → Type 0
+SaysCount most line name n = (word : List ℕ) × (line ≡ name ∷ word ∷ []) × CountRead most word n
 
 abbrev pub SaysSetting : List (List ℕ) → Setting → Type 0
 SaysSetting line (Labels kind) = line ≡ codes "labels" ∷ kind_words kind
-SaysSetting line (Memory n) = Counts 65535 line (codes "memory") n
-SaysSetting line (Stack n) = Counts 65535 line (codes "stack") n
-SaysSetting line (Log n) = Counts 65535 line (codes "log") n
+SaysSetting line (Memory n) = SaysCount 65535 line (codes "memory") n
+SaysSetting line (Stack n) = SaysCount 65535 line (codes "stack") n
+SaysSetting line (Log n) = SaysCount 65535 line (codes "log") n
 SaysSetting line (Cell cell number) = (word : List ℕ) × (line ≡ codes "cell" ∷ word ∷ number.now ∷ []) × CountRead 4294967295 word cell
 
 -- both words of a call's operands are taken, if the answer is not an error
@@ -50,5 +50,5 @@ module _ {L : Type 0} (text : L → List ℕ) where
   SaysCall line (Enter cell number) = (c n : List ℕ) × (line ≡ codes "enter" ∷ c ∷ n ∷ []) × CountRead 4294967295 c cell × NumberRead text n number
   SaysCall line (Look cell clearance) = (c : List ℕ) × (line ≡ codes "look" ∷ c ∷ text clearance ∷ []) × CountRead 4294967295 c cell
   SaysCall line Start = Alone line (codes "start")
-  SaysCall line (Go fuel) = Counts 4294967295 line (codes "go") fuel
+  SaysCall line (Go fuel) = SaysCount 4294967295 line (codes "go") fuel
   SaysCall line (Command from clearance) = (p : List ℕ) × (line ≡ codes "command" ∷ p ∷ text clearance ∷ []) × CountRead 4294967295 p from

@@ -7,7 +7,7 @@ use Rattle.machine.specs.declared.parts.Labelled.{Labelled}
 use Rattle.sheets.specs.declared.reader.Given.{Given}
 use Rattle.sheets.specs.declared.reader.Settings.{Settings}
 use Rattle.sheets.specs.declared.settings.Setting.{Setting}
-use Rattle.sheets.specs.Lines.{Counts, SaysSetting}
+use Rattle.sheets.specs.Lines.{SaysCount, SaysSetting}
 use Rattle.sheets.specs.Numbers.{CountRead, NumberRead}
 use Rattle.sheets.specs.Parts.{zero_at}
 
@@ -37,11 +37,11 @@ NoLine lines first = (line : List (List ℕ)) → Contains lines line → Begins
 
 -- the number that a line gives behind the name, or the usual one if no line begins with the name
 abbrev pub GivenOr : ℕ → List (List (List ℕ)) → List ℕ → ℕ → Type 0
-GivenOr usual lines name n = OnlySaid lines (name ∷ []) (λ line. Counts 65535 line name n) ⊎ ((n ≡ usual) × NoLine lines (name ∷ []))
+GivenOr usual lines name n = OnlySaid lines (name ∷ []) (λ line. SaysCount 65535 line name n) ⊎ ((n ≡ usual) × NoLine lines (name ∷ []))
 
 -- the line is the first to give a number behind the name, or it begins with another word and all stays
 abbrev pub GivesCount : List (List ℕ) → List ℕ → Option ℕ → Option ℕ → Type 0
-GivesCount line name before after = ((n : ℕ) × Counts 65535 line name n × (before ≡ None) × (after ≡ Some n)) ⊎ (BeginsOther (name ∷ []) line × (after ≡ before))
+GivesCount line name before after = ((n : ℕ) × SaysCount 65535 line name n × (before ≡ None) × (after ≡ Some n)) ⊎ (BeginsOther (name ∷ []) line × (after ≡ before))
 
 module _ {L : Type 0} (text : L → List ℕ) where
   -- the line says what cell c holds
@@ -63,7 +63,7 @@ module _ {L : Type 0} (text : L → List ℕ) where
   -- Each line says a setting. A line says the size of the memory. Of each cell the lines that begin with its text say what it holds; where none does, it holds 0 with that label. So it is with stack and log, which are 64 long where no line says them.
   pub record SaysSettings (bottom : L) (lines : List (List (List ℕ))) (memory : List (Labelled L)) (stack log : ℕ) : Type 0 where
     pub each : AreSettings lines
-    pub size : SomeLine lines (λ line. Counts 65535 line (codes "memory") (length memory))
+    pub size : SomeLine lines (λ line. SaysCount 65535 line (codes "memory") (length memory))
     pub cells : (c : ℕ) (d : Labelled L) → c < length memory
         → OnlySaid lines (codes "cell" ∷ decimal c ∷ []) (λ line. SaysCell line c (slice_index_or memory c d)) ⊎ ((slice_index_or memory c d ≡ zero_at bottom) × NoLine lines (codes "cell" ∷ decimal c ∷ []))
     pub deep : GivenOr 64 lines (codes "stack") stack

@@ -2,7 +2,7 @@
 ghost use Rattle.std.specs.Prelude.{◌≡◌, [], ◌∷◌, ◌++◌, IfOk, map};
 ghost use Rattle.text.specs.Words.{words};
 ghost use Rattle.sheets.specs.Sheets.{BeginsWith, GivesLine, line_words, sheet_lines};
-ghost use Rattle.sheets.specs.Words.{Takes};
+ghost use Rattle.sheets.specs.Words.{TakesWord};
 
 use crate::{Due, Problem};
 use std::alloc::{AllocError, Global};
@@ -36,7 +36,7 @@ impl<'a> Line<'a> {
 
 impl<'a> Words<'a> {
     pub fn next(&mut self) -> Option<&'a str>
-        ensures { Takes (words self.old.0.now) result (words self.new.0.now) }
+        ensures { TakesWord (words self.old.0.now) result (words self.new.0.now) }
     {
         let (word, rest) = next_word(self.0)?;
         self.0 = rest;

@@ -3,12 +3,12 @@ ghost use Rattle.std.specs.Prelude.{◌≡◌, ◌<◌, ◌≤◌, ◌-ℤ◌, I
 ghost use Rattle.std.specs.List.{slice_index_or, slice_set};
 ghost use Rattle.std.specs.Option.{IfSome};
 ghost use Rattle.text.specs.Words.{words};
-ghost use Rattle.sheets.specs.Lines.{Counts, SaysCall, SaysOperation, SaysOperands};
+ghost use Rattle.sheets.specs.Lines.{SaysCount, SaysCall, SaysOperation, SaysOperands};
 ghost use Rattle.sheets.specs.Numbers.{GivesLabel, GivesNumber, GivesValue, LabelRead, NumberRead};
 ghost use Rattle.sheets.specs.Parts.{zero_at};
 ghost use Rattle.sheets.specs.Settings.{AddsSetting, SaysSettings, Settles, SomeLine};
 ghost use Rattle.sheets.specs.Sheets.{Adds, ReadsCalls, ReadsProgram, SaysCalls, SaysProgram, line_words};
-ghost use Rattle.sheets.specs.Words.{Reads};
+ghost use Rattle.sheets.specs.Words.{ReadsWith};
 
 use crate::lines::{Line, Words};
 use crate::names::{Names, is_name};
@@ -251,13 +251,13 @@ impl<'a> Reader<'a> {
     }
 
     fn read_labelled<L: Label>(&self, rest: &mut Words<'a>) -> Result<Labelled<L>, Problem<'a>>
-        ensures { Reads (NumberRead L.Label.text) (words rest.old.0.now) result (words rest.new.0.now) }
+        ensures { ReadsWith (NumberRead L.Label.text) (words rest.old.0.now) result (words rest.new.0.now) }
     {
         self.labelled(rest.due(Due::Labelled)?)
     }
 
     fn read_label<L: Label>(&self, rest: &mut Words<'a>) -> Result<L, Problem<'a>>
-        ensures { Reads (LabelRead L.Label.text) (words rest.old.0.now) result (words rest.new.0.now) }
+        ensures { ReadsWith (LabelRead L.Label.text) (words rest.old.0.now) result (words rest.new.0.now) }
     {
         self.label(rest.due(Due::Label(self.kind))?)
     }
@@ -315,7 +315,7 @@ fn distance<'a>(from: i32, to: i32) -> Result<i32, Problem<'a>>
 
 // The size of the memory, if a line gives it.
 fn memory_size(lines: &[Line<'_>]) -> Option<usize>
-    ensures { IfSome result (λ n. SomeLine (map line_words lines.now) (λ line. Counts 65535 line (codes "memory") n)) }
+    ensures { IfSome result (λ n. SomeLine (map line_words lines.now) (λ line. SaysCount 65535 line (codes "memory") n)) }
 {
     for line in lines {
         if let Ok(Setting::Memory(count)) = Setting::read(line) {

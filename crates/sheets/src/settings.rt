@@ -5,7 +5,7 @@ ghost use Rattle.sheets.specs.Kinds.{HasKind, KindRead, ReadsKind};
 ghost use Rattle.sheets.specs.Lines.{SaysSetting};
 ghost use Rattle.sheets.specs.Numbers.{CountRead};
 ghost use Rattle.sheets.specs.Sheets.{line_words};
-ghost use Rattle.sheets.specs.Words.{Reads};
+ghost use Rattle.sheets.specs.Words.{ReadsWith};
 
 use crate::lines::{Line, Words};
 use crate::numbers::unsigned;
@@ -84,7 +84,7 @@ fn kind_named(word: &str) -> Result<KindName, Problem<'_>>
 }
 
 fn read_count<'a>(rest: &mut Words<'a>) -> Result<usize, Problem<'a>>
-    ensures { Reads (CountRead 65535) (words rest.old.0.now) result (words rest.new.0.now) }
+    ensures { ReadsWith (CountRead 65535) (words rest.old.0.now) result (words rest.new.0.now) }
 {
     let word = rest.due(Due::Number(0, i64::from(MOST)))?;
     Ok(unsigned(word, MOST)? as usize)
@@ -92,13 +92,13 @@ fn read_count<'a>(rest: &mut Words<'a>) -> Result<usize, Problem<'a>>
 
 // The number of a cell or of a place.
 pub fn read_index<'a>(rest: &mut Words<'a>) -> Result<usize, Problem<'a>>
-    ensures { Reads (CountRead 4294967295) (words rest.old.0.now) result (words rest.new.0.now) }
+    ensures { ReadsWith (CountRead 4294967295) (words rest.old.0.now) result (words rest.new.0.now) }
 {
     Ok(read_wide(rest)? as usize)
 }
 
 pub fn read_wide<'a>(rest: &mut Words<'a>) -> Result<u32, Problem<'a>>
-    ensures { Reads (CountRead 4294967295) (words rest.old.0.now) result (words rest.new.0.now) }
+    ensures { ReadsWith (CountRead 4294967295) (words rest.old.0.now) result (words rest.new.0.now) }
 {
     let word = rest.due(Due::Number(0, i64::from(u32::MAX)))?;
     unsigned(word, u32::MAX)
