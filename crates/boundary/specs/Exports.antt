@@ -1,9 +1,6 @@
 -- What the C functions come to. Assumes nothing.
 use Rattle.std.specs.Prelude.{◌≡◌, ◌≢◌, ◌⊎◌, ℕ, pos, replicate, List, take, drop, length, ◌++◌, Ok, Err, Result}
-use Rattle.labels.specs.Growers.{grower_sets}
 use Rattle.labels.specs.Kind.{Kind}
-use Rattle.labels.specs.Level.{levels}
-use Rattle.labels.specs.Pair.{pairs}
 use Rattle.machine.specs.Numbers.{refusal_number}
 use Rattle.rules.specs.Policies.{CachedFaithful, DirectFaithful}
 use Rattle.rules.specs.Rows.{RowsFaithful}
@@ -13,15 +10,14 @@ use Rattle.compare.specs.declared.plans.Plan.{Plan}
 use Rattle.compare.specs.declared.reports.Compared.{Compared}
 use Rattle.compare.specs.declared.reports.Unmade.{Unmade as UnmadeStation}
 use Rattle.boundary.specs.Calls.{refused_part}
-use Rattle.boundary.specs.Labels.{growers_code, level_code, pair_code}
+use Rattle.boundary.specs.Kinds.{OfKind, kind_number}
 use Rattle.boundary.specs.Plans.{CodesPlan, Runs, blank_end}
 use Rattle.boundary.specs.Reports.{CodesReport, CodesUnmade}
-use Rattle.boundary.specs.declared.choices.KindCode.{KindCode}
-use Rattle.boundary.specs.declared.choices.KindCode.TheVariants.{Levels, Growers, LevelsLevels, LevelsGrowers, GrowersLevels, GrowersGrowers}
 use Rattle.boundary.specs.declared.choices.PolicyCode.{PolicyCode}
 use Rattle.boundary.specs.declared.choices.PolicyCode.TheVariants.{Direct, Rows, Cached, CachedTwice}
 use Rattle.boundary.specs.declared.faults.Fault.{Fault}
 use Rattle.boundary.specs.declared.faults.Fault.TheVariants.{NoCode, OutOfMemory, Unmade}
+use Rattle.boundary.specs.declared.kinds.KindCode.{KindCode}
 use Rattle.boundary.specs.declared.plans.End.{End}
 use Rattle.boundary.specs.declared.plans.PlanCode.{PlanCode}
 use Rattle.boundary.specs.declared.calls.CallCode.{CallCode}
@@ -31,14 +27,6 @@ use Rattle.boundary.specs.declared.parts.NumberCode.{NumberCode}
 use Rattle.boundary.specs.declared.parts.OperationCode.{OperationCode}
 use Rattle.boundary.specs.declared.plans.RanCode.{RanCode}
 use Rattle.boundary.specs.declared.reports.ReportCode.{ReportCode}
-
-abbrev pub kind_number : KindCode → ℕ
-kind_number Levels = 0
-kind_number Growers = 1
-kind_number LevelsLevels = 2
-kind_number LevelsGrowers = 3
-kind_number GrowersLevels = 4
-kind_number GrowersGrowers = 5
 
 abbrev pub policy_number : PolicyCode → ℕ
 policy_number Direct = 0
@@ -82,21 +70,11 @@ module _ {L : Type 0} (code : L → ℕ) (kind : Kind L) where
 
 -- run with labels of this kind under this policy
 abbrev pub RunsAs : KindCode → PolicyCode → PlanCode → Result RanCode Fault → Type 0
-RunsAs Levels = RunsUnder level_code levels
-RunsAs Growers = RunsUnder growers_code grower_sets
-RunsAs LevelsLevels = RunsUnder (pair_code level_code level_code) (pairs levels levels)
-RunsAs LevelsGrowers = RunsUnder (pair_code level_code growers_code) (pairs levels grower_sets)
-RunsAs GrowersLevels = RunsUnder (pair_code growers_code level_code) (pairs grower_sets levels)
-RunsAs GrowersGrowers = RunsUnder (pair_code growers_code growers_code) (pairs grower_sets grower_sets)
+RunsAs kind policy c r = OfKind kind (λ L code order. RunsUnder code order policy c r)
 
 -- compared with labels of this kind under these policies
 abbrev pub ReportsAs : KindCode → PolicyCode → ℕ → PlanCode → PlanCode → Result ReportCode Fault → Type 0
-ReportsAs Levels = ReportsUnder level_code levels
-ReportsAs Growers = ReportsUnder growers_code grower_sets
-ReportsAs LevelsLevels = ReportsUnder (pair_code level_code level_code) (pairs levels levels)
-ReportsAs LevelsGrowers = ReportsUnder (pair_code level_code growers_code) (pairs levels grower_sets)
-ReportsAs GrowersLevels = ReportsUnder (pair_code growers_code level_code) (pairs grower_sets levels)
-ReportsAs GrowersGrowers = ReportsUnder (pair_code growers_code growers_code) (pairs grower_sets grower_sets)
+ReportsAs kind policy level c d r = OfKind kind (λ L code order. ReportsUnder code order policy level c d r)
 
 -- What is done with the kind and the policy of these numbers, or that a number is none's.
 abbrev pub Chosen : {A : Type 0} → ℕ → ℕ → (KindCode → PolicyCode → Result A Fault → Type 0) → Result A Fault → Type 0

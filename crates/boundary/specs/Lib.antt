@@ -1,5 +1,6 @@
 pub mod Calls
 pub mod Exports
+pub mod Kinds
 pub mod Labels
 pub mod Parts
 pub mod Plans

@@ -3,8 +3,9 @@ ghost use Rattle.std.specs.Prelude.{◌≡◌, ◌⊎◌};
 ghost use Rattle.boundary.specs.Exports.{Chosen, CodesNoReport, Comparison, Ran, ReportsAs, RunsAll, fault_end, written};
 
 use crate::calls::{CallCode, ReplyCode, refused_part};
-use crate::choices::{KindCode, PolicyCode};
+use crate::choices::PolicyCode;
 use crate::faults::Fault;
+use crate::kinds::KindCode;
 use crate::parts::{EntryCode, NumberCode, OperationCode};
 use crate::plans::{BLANK, End, PlanCode, RanCode};
 use crate::reports::{self, ReportCode};
