@@ -11,7 +11,7 @@ use Rattle.compare.specs.declared.reports.Compared.{Compared}
 use Rattle.compare.specs.declared.reports.Unmade.{Unmade as UnmadeStation}
 use Rattle.boundary.specs.Calls.{refused_part}
 use Rattle.boundary.specs.Kinds.{OfKind, kind_number}
-use Rattle.boundary.specs.Plans.{CodesPlan, Runs, blank_end}
+use Rattle.boundary.specs.Plans.{CodesPlan, RunsCode, blank_end}
 use Rattle.boundary.specs.Reports.{CodesReport, CodesUnmade}
 use Rattle.boundary.specs.declared.choices.PolicyCode.{PolicyCode}
 use Rattle.boundary.specs.declared.choices.PolicyCode.TheVariants.{Direct, Rows, Cached, CachedTwice}
@@ -37,7 +37,7 @@ policy_number CachedTwice = 3
 module _ {L : Type 0} (code : L → ℕ) (kind : Kind L) where
   -- run under a policy that is true to the published rows
   abbrev pub RunsTrue : {P : Type 0} → (P → Table L → Type 0) → PlanCode → Result RanCode Fault → Type 0
-  RunsTrue {P} faithful c r = (policy : P) × faithful policy (published kind) × Runs code policy kind faithful c r
+  RunsTrue {P} faithful c r = (policy : P) × faithful policy (published kind) × RunsCode code policy kind faithful c r
 
   -- What a report says of two plans: what comparing them comes to, or which of the stations is not made.
   abbrev pub Told : {P : Type 0} → (P → Table L → Type 0) → L → Plan P L → Plan P L → ReportCode → Type 0
@@ -78,8 +78,8 @@ ReportsAs kind policy level c d r = OfKind kind (λ L code order. ReportsUnder c
 
 -- What is done with the kind and the policy of these numbers, or that a number is none's.
 abbrev pub Chosen : {A : Type 0} → ℕ → ℕ → (KindCode → PolicyCode → Result A Fault → Type 0) → Result A Fault → Type 0
-Chosen {A} kind policy Does r =
-    ((k : KindCode) × (kind ≡ kind_number k) × ((p : PolicyCode) × (policy ≡ policy_number p) × Does k p r))
+Chosen {A} kind policy Promises r =
+    ((k : KindCode) × (kind ≡ kind_number k) × ((p : PolicyCode) × (policy ≡ policy_number p) × Promises k p r))
     ⊎ ((r ≡ Err NoCode) × ((k : KindCode) → kind ≡ kind_number k → (p : PolicyCode) → policy ≡ policy_number p → ⊥))
 
 -- The values are written over the first places, as many as there are.
@@ -130,7 +130,7 @@ Leaving memory memory' stack stack' log log' replies replies' end' (Ok ran) = Wr
 Leaving memory memory' stack stack' log log' replies replies' end' (Err fault) = Leaves memory memory' stack stack' log log' replies replies' fault end'
 
 -- What running comes to: the plan that the lists code is run, and what is left of it is written, or the end says why not.
-pub record Ran (kind policy : ℕ) (program : List OperationCode) (memory memory' : List NumberCode) (stack stack' : List EntryCode) (log log' : List NumberCode) (calls : List CallCode) (replies replies' : List ReplyCode) (end' : End) : Type 0 where
+pub record RunsLists (kind policy : ℕ) (program : List OperationCode) (memory memory' : List NumberCode) (stack stack' : List EntryCode) (log log' : List NumberCode) (calls : List CallCode) (replies replies' : List ReplyCode) (end' : End) : Type 0 where
   pub plan : PlanCode
   pub program_is : plan.program.now ≡ program
   pub memory_is : plan.memory.now ≡ memory

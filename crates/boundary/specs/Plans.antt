@@ -56,8 +56,8 @@ module _ {P L : Type 0} (code : L → ℕ) (policy : P) where
 
   -- A plan in numbers that is run: what is left of the plan that they code, or that making its station is refused, that they code
   -- no plan, or that there was no memory.
-  abbrev pub Runs : Kind L → (P → Table L → Type 0) → PlanCode → Result RanCode Fault → Type 0
-  Runs kind faithful c (Ok told) = (plan : Plan P L) × CodesPlan c plan × ((ran : Ran P L) × RunsTo kind faithful plan (Ok ran) × CodesRan code told ran)
-  Runs kind faithful c (Err NoCode) = (plan : Plan P L) → CodesPlan c plan → ⊥
-  Runs kind faithful c (Err OutOfMemory) = Unit {0}
-  Runs kind faithful c (Err (Unmade why)) = (plan : Plan P L) × CodesPlan c plan × RunsTo kind faithful plan (Err why)
+  abbrev pub RunsCode : Kind L → (P → Table L → Type 0) → PlanCode → Result RanCode Fault → Type 0
+  RunsCode kind faithful c (Ok told) = (plan : Plan P L) × CodesPlan c plan × ((ran : Ran P L) × RunsTo kind faithful plan (Ok ran) × CodesRan code told ran)
+  RunsCode kind faithful c (Err NoCode) = (plan : Plan P L) → CodesPlan c plan → ⊥
+  RunsCode kind faithful c (Err OutOfMemory) = Unit {0}
+  RunsCode kind faithful c (Err (Unmade why)) = (plan : Plan P L) × CodesPlan c plan × RunsTo kind faithful plan (Err why)

@@ -1,6 +1,6 @@
 // The C functions. A slice is passed as a pointer and then a length; the heap takes no argument.
 ghost use Rattle.std.specs.Prelude.{◌≡◌, ◌⊎◌};
-ghost use Rattle.boundary.specs.Exports.{Chosen, CodesNoReport, Comparison, Ran, ReportsAs, RunsAll, fault_end, written};
+ghost use Rattle.boundary.specs.Exports.{Chosen, CodesNoReport, Comparison, ReportsAs, RunsAll, RunsLists, fault_end, written};
 
 use crate::calls::{CallCode, ReplyCode, refused_part};
 use crate::choices::PolicyCode;
@@ -26,7 +26,7 @@ pub extern "C" fn senggubat_run(
     replies: &mut [ReplyCode],
     end: &mut End,
 )
-    ensures { Ran kind policy program.now memory.old memory.new stack.old stack.new log.old log.new calls.now replies.old replies.new end.new }
+    ensures { RunsLists kind policy program.now memory.old memory.new stack.old stack.new log.old log.new calls.now replies.old replies.new end.new }
 {
     let plan = PlanCode {
         program,

@@ -4,7 +4,7 @@ ghost use Rattle.sites.specs.declared.lending.Parts.{Parts as PartsD};
 ghost use Rattle.compare.specs.declared.plans.Plan.{Plan as PlanD};
 ghost use Rattle.boundary.specs.Calls.{Unread};
 ghost use Rattle.boundary.specs.Parts.{entry_code};
-ghost use Rattle.boundary.specs.Plans.{CodesParts, CodesPlan, CodesRan, Runs, end_code, stack_of};
+ghost use Rattle.boundary.specs.Plans.{CodesParts, CodesPlan, CodesRan, RunsCode, end_code, stack_of};
 
 use crate::calls::{CallCode, ReplyCode, state_code, state_place};
 use crate::codes::Coded;
@@ -61,7 +61,7 @@ impl PlanCode<'_> {
         heap: Global,
         policy: P,
     ) -> Result<RanCode, Fault>
-        ensures { Runs L.Coded.code policy L.Label.kind P.Policy.faithful self.entry result }
+        ensures { RunsCode L.Coded.code policy L.Label.kind P.Policy.faithful self.entry result }
     {
         let plan: Plan<P, L> = self.plan(heap, policy)?;
         match plan.run() {
