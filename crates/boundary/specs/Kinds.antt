@@ -13,6 +13,7 @@ use Rattle.boundary.specs.declared.kinds.KindCode.TheVariants.{One, Pair}
 use Rattle.boundary.specs.declared.kinds.KindName.{KindName}
 use Rattle.boundary.specs.declared.kinds.KindName.TheVariants.{Levels, Growers}
 
+-- The numbers by which programs outside name the kinds.
 abbrev pub kind_number : KindCode → ℕ
 kind_number (One Levels) = 0
 kind_number (One Growers) = 1

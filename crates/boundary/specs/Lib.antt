@@ -1,3 +1,4 @@
+-- What the contracts of this crate are stated by.
 pub mod Calls
 pub mod Exports
 pub mod Kinds

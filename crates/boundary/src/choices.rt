@@ -1,4 +1,4 @@
-// Kinds of label and policies by number, and plans run with them.
+// Policies by number, and plans run and compared with the kinds and policies that numbers choose.
 ghost use Rattle.std.specs.Prelude.{◌≡◌, MatchOption};
 ghost use Rattle.rules.specs.Policies.{CachedFaithful, DirectFaithful};
 ghost use Rattle.rules.specs.Rows.{RowsFaithful};
@@ -13,6 +13,7 @@ use crate::reports::{ReportCode, report};
 use rules::{Cached, Direct, RowTable};
 use std::alloc::Global;
 
+/// A policy that can be chosen: one of the three, or a cache over a cache over the direct one.
 #[derive(Clone, Copy)]
 pub enum PolicyCode {
     Direct,
@@ -91,8 +92,11 @@ impl KindCode {
 }
 
 impl PolicyCode {
+    /// The policy with this number, if there is one.
     pub fn numbered(number: u32) -> Option<PolicyCode>
-        ensures { MatchOption result ((policy : PolicyCode) → number ≡ policy_number policy → ⊥) (λ policy. number ≡ policy_number policy) }
+        ensures { MatchOption result
+            ((policy : PolicyCode) → number ≡ policy_number policy → ⊥)
+            (λ policy. number ≡ policy_number policy) }
     {
         match number {
             0 => Some(PolicyCode::Direct),
@@ -103,7 +107,8 @@ impl PolicyCode {
         }
     }
 
-    // Runs a plan under this policy. Each policy is a type of its own here, so that its answers are compiled into the run.
+    // Runs a plan under this policy. Each policy is a type of its own here, so that its answers are
+    // compiled into the run.
     fn run<L: Coded>(self, heap: Global, plan: PlanCode<'_>) -> Result<RanCode, Fault>
         ensures { RunsUnder L.Coded.code L.Label.kind self plan.entry result }
     {
@@ -146,14 +151,17 @@ impl PolicyCode {
     }
 }
 
+// The cached policy over the row table.
 fn cached<L: Coded>() -> Cached<RowTable, L>
     ensures { CachedFaithful (RowsFaithful L.Label.kind) result (published L.Label.kind) }
 {
     Cached::new(RowTable::new::<L>())
 }
 
+// A cache over a cache over the direct policy.
 fn cached_twice<L: Coded>() -> Cached<Cached<Direct, L>, L>
-    ensures { CachedFaithful (CachedFaithful (DirectFaithful L.Label.kind)) result (published L.Label.kind) }
+    ensures { CachedFaithful (CachedFaithful (DirectFaithful L.Label.kind))
+        result (published L.Label.kind) }
 {
     let below: Cached<Direct, L> = Cached::new(Direct::new::<L>());
     Cached::new(below)

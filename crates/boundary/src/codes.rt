@@ -5,19 +5,20 @@ ghost use Rattle.std.proofs.Common.{rules};
 
 use labels::{Growers, Label, Level, Pair};
 
-// A kind of label whose labels have numbers of 32 bits.
+/// A kind of label whose labels have numbers of 32 bits.
 pub trait Coded: Label {
     ghost code: { Self → ℕ };
 
+    /// The number of the label.
     fn code(self) -> u32
         ensures { result ≡ code self };
 
-    // The label with this number, if there is one.
+    /// The label with this number, if there is one.
     fn of_code(number: u32) -> Option<Self>
         ensures { MatchOption result ((a : Self) → number ≢ code a) (λ a. number ≡ code a) };
 }
 
-// A kind whose labels' numbers have 16 bits, so that two make a pair's.
+/// A kind whose labels' numbers have 16 bits, so that two make a pair's.
 pub trait Half: Coded {
     ghost halved: { (a : Self) → Self.code a < 65536 };
 }

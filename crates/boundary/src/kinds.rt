@@ -1,4 +1,5 @@
-// Kinds of label by number. A kind is a type to what runs and compares plans: here, and nowhere else, one is picked.
+// Kinds of label by number. A kind is a type to what runs and compares plans: here, and nowhere else,
+// one is picked.
 ghost use Rattle.std.specs.Prelude.{◌≡◌, MatchOption, Result as ResultD};
 ghost use Rattle.boundary.specs.Kinds.{OfKind, OfLabels, OfName, OfPairs, OfPairsFrom, kind_number};
 ghost use Rattle.boundary.specs.declared.faults.Fault.{Fault as FaultD};
@@ -73,7 +74,8 @@ impl KindCode {
 }
 
 impl KindName {
-    // Performs a task with labels of this simple kind. A new kind is one arm here, and its pairs come with it.
+    // Performs a task with labels of this simple kind. A new kind is one arm here, and its pairs
+    // come with it.
     fn perform<T: SimpleTask>(self, task: T) -> Result<T::Output, Fault>
         ensures { OfName self (T.promises task result) }
     {
@@ -120,7 +122,8 @@ impl<T: Task> SimpleTask for OnPairs<T> {
     }
 }
 
-// A task on pairs whose left kind is A: performed with the right one, it performs the task on the pairs.
+// A task on pairs whose left kind is A: performed with the right one, it performs the task on the
+// pairs.
 struct OnPairsFrom<A, T> {
     left: PhantomData<A>,
     task: T,
