@@ -1,5 +1,4 @@
-// Kinds of label. A kind is a type to the rest of the program: here, and nowhere else, one is picked by
-// its name.
+// Kinds of label: here, and nowhere else in the program, one is picked by its name and becomes a type.
 use crate::{Console, Failure};
 use labels::{Growers, Level, Pair};
 use readings::Readings;
@@ -21,7 +20,7 @@ pub fn perform<T: Task>(kind: Kind, task: T, console: &mut Console<'_>) -> Resul
     }
 }
 
-// Performs a task with labels of a simple kind. A new kind is one arm here, and its pairs come with it.
+// Performs a task with labels of a simple kind. A new kind is an arm here, and its pairs come with it.
 fn with_kind<T: Task>(name: KindName, task: T, console: &mut Console<'_>) -> Result<(), Failure> {
     match name {
         KindName::Levels => task.perform::<Level>(console),
@@ -38,18 +37,12 @@ struct OnPairs<T> {
 impl<T: Task> Task for OnPairs<T> {
     fn perform<A: Readings>(self, console: &mut Console<'_>) -> Result<(), Failure> {
         let OnPairs { right, task } = self;
-        with_kind(
-            right,
-            OnPairsFrom::<A, T> {
-                left: PhantomData,
-                task,
-            },
-            console,
-        )
+        let left = PhantomData;
+        with_kind(right, OnPairsFrom::<A, T> { left, task }, console)
     }
 }
 
-// A task on pairs whose left kind is A: performed with the right one, it performs the task on the pairs.
+// A task on pairs whose left kind is A: performed with the right one, it does the task on the pairs.
 struct OnPairsFrom<A, T> {
     left: PhantomData<A>,
     task: T,

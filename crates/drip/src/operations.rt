@@ -4,6 +4,7 @@ use machine::Operation;
 use sites::Written;
 use std::fmt;
 
+/// An operation as it stands in a sheet, as `push 5@0001`.
 #[derive(Clone, Copy)]
 pub struct Spelled<L>(pub Operation<L>);
 

@@ -34,7 +34,8 @@ enum Target {
     Command(usize),
 }
 
-// The top of a stack, shown as `5@0001`, as `frame` with the place that it returns to, or as `-` if there is none.
+// The top of a stack, shown as `5@0001`, as `frame` with the place that it returns to, or as `-` if
+// there is none.
 #[derive(Clone, Copy)]
 struct Top<L>(Option<Entry<L>>);
 
@@ -42,8 +43,8 @@ struct Top<L>(Option<Entry<L>>);
 #[derive(Clone, Copy)]
 struct Meaning(Stop);
 
-// Makes the calls on a station and prints each with its reply, before that of a go its steps, and at the end what a run prints.
-// The steps are rehearsed, under a policy of the same name.
+/// Makes the calls on a station and prints each with its reply, before that of a go its steps, and
+/// at the end what a run prints. The steps are rehearsed, under a policy of the same name.
 pub fn print_trace<L: Label>(
     site: Site<AnyPolicy<L>, L>,
     policy: PolicyName,
@@ -75,7 +76,8 @@ pub fn print_trace<L: Label>(
 }
 
 impl Steps {
-    // The columns have room for every operation of the program and every number with its label, so they are known before the steps.
+    // The columns have room for every operation of the program and every
+    // number with its label, so they are known before the steps.
     fn of<L: Label>(heap: Global, program: &[Operation<L>]) -> Result<Steps, AllocError> {
         let mut operation = 0;
         for it in program {
@@ -95,7 +97,8 @@ impl Steps {
         Ok(Steps { heap, columns })
     }
 
-    // Prints the steps that a go of so much fuel takes, and the operation that it is stopped at, if it is.
+    // Prints the steps that a go of so much fuel takes, and the operation that it is stopped at, if
+    // it is.
     fn print_go<L: Label>(
         &self,
         rehearsal: Rehearsal<L>,
@@ -152,6 +155,7 @@ impl Steps {
         self.print_row(String::new(self.heap), ahead, rehearsal, stopped, console)
     }
 
+    // Prints the row of a step: its number, how things stand, and a remark.
     fn print_row<L: Label>(
         &self,
         number: String,
@@ -183,6 +187,7 @@ fn top_of<L: Label>(rehearsal: &Rehearsal<L>) -> Option<Entry<L>> {
     rehearsal.parts().stack.get(below).copied()
 }
 
+// A column with room for so much.
 fn column(side: Side, width: usize) -> Column {
     Column { side, width }
 }
