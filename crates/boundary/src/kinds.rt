@@ -1,5 +1,4 @@
-// Kinds of label by number. A kind is a type to what runs and compares plans: here, and nowhere else,
-// one is picked.
+// Kinds of label by number: here, and nowhere else in the crate, one is picked and becomes a type.
 ghost use Rattle.std.specs.Prelude.{◌≡◌, MatchOption, Result as ResultD};
 ghost use Rattle.boundary.specs.Kinds.{OfKind, OfLabels, OfName, OfPairs, OfPairsFrom, kind_number};
 ghost use Rattle.boundary.specs.declared.faults.Fault.{Fault as FaultD};
@@ -74,8 +73,8 @@ impl KindCode {
 }
 
 impl KindName {
-    // Performs a task with labels of this simple kind. A new kind is one arm here, and its pairs
-    // come with it.
+    // Performs a task with labels of this simple kind. A new kind is an arm here, and its pairs come
+    // with it.
     fn perform<T: SimpleTask>(self, task: T) -> Result<T::Output, Fault>
         ensures { OfName self (T.promises task result) }
     {
@@ -115,15 +114,12 @@ impl<T: Task> SimpleTask for OnPairs<T> {
 
     fn perform<A: Half>(self) -> Result<T::Output, Fault> {
         let OnPairs { right, task } = self;
-        right.perform(OnPairsFrom::<A, T> {
-            left: PhantomData,
-            task,
-        })
+        let left = PhantomData;
+        right.perform(OnPairsFrom::<A, T> { left, task })
     }
 }
 
-// A task on pairs whose left kind is A: performed with the right one, it performs the task on the
-// pairs.
+// A task on pairs whose left kind is A: performed with the right one, it does the task on the pairs.
 struct OnPairsFrom<A, T> {
     left: PhantomData<A>,
     task: T,
