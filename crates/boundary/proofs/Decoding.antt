@@ -2,7 +2,7 @@
 use Rattle.std.proofs.Common.{◌≡◌, ◌+◌, ℕ, zero, suc, ◌<◌, List, [], ◌∷◌, ◌++◌, length, get_or}
 use Rattle.std.proofs.Common.{take, sym, subst, arith, ap, ◌∙◌}
 use Rattle.std.proofs.lemmas.List.{take_more}
-use Rattle.boundary.specs.Calls.{Unread}
+use Rattle.boundary.specs.Decoding.{Unread}
 use Rattle.boundary.specs.Parts.{CodesEach, none, more}
 use Rattle.boundary.specs.declared.faults.Fault.{Fault}
 use Rattle.boundary.specs.declared.faults.Fault.TheVariants.{NoCode, OutOfMemory, Unmade}

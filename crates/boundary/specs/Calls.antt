@@ -18,8 +18,6 @@ use Rattle.compare.specs.declared.exchanges.Lent.{Lent}
 use Rattle.compare.specs.declared.exchanges.Lent.TheVariants.{Own, Others}
 use Rattle.boundary.specs.declared.calls.CallCode.{CallCode}
 use Rattle.boundary.specs.declared.calls.ReplyCode.{ReplyCode}
-use Rattle.boundary.specs.declared.faults.Fault.{Fault}
-use Rattle.boundary.specs.declared.faults.Fault.TheVariants.{NoCode, OutOfMemory, Unmade}
 
 module _ {L : Type 0} (code : L → ℕ) where
   -- A call's number, and what goes with it. The other fields say nothing.
@@ -90,9 +88,3 @@ reply_code code (Some (Refused why)) =
 reply_code code (Some (NotTaken state)) =
     record blank { code = 8; state = state_code state; number = state_place state }
 reply_code code (Some NotLent) = record blank { code = 9 }
-
--- Why nothing was read: nothing is coded by the numbers, or there was no memory for it.
-abbrev pub Unread : Type 0 → Fault → Type 0
-Unread NothingCoded NoCode = NothingCoded
-Unread NothingCoded OutOfMemory = Unit {0}
-Unread NothingCoded (Unmade why) = ⊥

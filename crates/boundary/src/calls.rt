@@ -1,10 +1,9 @@
 // Calls, replies and states as structs of numbers.
-ghost use Rattle.std.specs.Prelude.{◌≡◌, IfOk, MatchOption, MatchResult};
+ghost use Rattle.std.specs.Prelude.{◌≡◌, IfOk};
 ghost use Rattle.sites.specs.Sites.{sizes_of};
-ghost use Rattle.sites.specs.declared.calls.Call.{Call as CallD};
-ghost use Rattle.compare.specs.declared.exchanges.Exchange.{Exchange as ExchangeD};
-ghost use Rattle.boundary.specs.Calls.{CodesCall, CodesExchange, Unread, part_code, refused_part};
-ghost use Rattle.boundary.specs.Calls.{reply_code, state_code, state_place};
+ghost use Rattle.boundary.specs.Calls.{CodesCall, CodesExchange, part_code, refused_part, reply_code};
+ghost use Rattle.boundary.specs.Calls.{state_code, state_place};
+ghost use Rattle.boundary.specs.Decoding.{Decodes, DecodesOnHeap};
 
 use crate::codes::Coded;
 use crate::faults::Fault;
@@ -51,9 +50,7 @@ pub struct ReplyCode {
 impl CallCode {
     // The call that the numbers code, if they code one.
     fn call<L: Coded>(self) -> Option<Call<L>>
-        ensures { MatchOption result
-            ((call : CallD L) → CodesCall L.Coded.code self call → ⊥)
-            (CodesCall L.Coded.code self) }
+        ensures { Decodes result (CodesCall L.Coded.code self) }
     {
         match self.code {
             0 => Some(Call::Enter {
@@ -82,8 +79,7 @@ impl CallCode {
     /// The call, to be made, with the parts that it is lent. Others'
     /// parts hold nothing of use: they are not the station's.
     pub fn exchange<L: Coded>(self, heap: Global) -> Result<Exchange<L>, Fault>
-        ensures { MatchResult result (CodesExchange L.Coded.code self)
-            (Unread ((e : ExchangeD L) → CodesExchange L.Coded.code self e → ⊥)) }
+        ensures { DecodesOnHeap result (CodesExchange L.Coded.code self) }
     {
         let Some(call) = self.call() else {
             return Err(Fault::NoCode);

@@ -1,8 +1,9 @@
 // Policies by number, and plans run and compared with the kinds and policies that numbers choose.
-ghost use Rattle.std.specs.Prelude.{◌≡◌, MatchOption};
+ghost use Rattle.std.specs.Prelude.{◌≡◌};
 ghost use Rattle.rules.specs.Policies.{CachedFaithful, DirectFaithful};
 ghost use Rattle.rules.specs.Rows.{RowsFaithful};
 ghost use Rattle.rules.specs.Tables.{published};
+ghost use Rattle.boundary.specs.Decoding.{Decodes};
 ghost use Rattle.boundary.specs.Exports.{ReportsAs, ReportsUnder, RunsAs, RunsUnder, policy_number};
 
 use crate::codes::Coded;
@@ -94,9 +95,7 @@ impl KindCode {
 impl PolicyCode {
     /// The policy with this number, if there is one.
     pub fn numbered(number: u32) -> Option<PolicyCode>
-        ensures { MatchOption result
-            ((policy : PolicyCode) → number ≡ policy_number policy → ⊥)
-            (λ policy. number ≡ policy_number policy) }
+        ensures { Decodes result (λ policy. number ≡ policy_number policy) }
     {
         match number {
             0 => Some(PolicyCode::Direct),

@@ -1,5 +1,6 @@
 // How labels are coded by numbers.
-ghost use Rattle.std.specs.Prelude.{◌≡◌, ◌≢◌, ℕ, ◌<◌, MatchOption};
+ghost use Rattle.std.specs.Prelude.{◌≡◌, ℕ, ◌<◌};
+ghost use Rattle.boundary.specs.Decoding.{Decodes};
 ghost use Rattle.boundary.specs.Labels.{growers_code, level_code, pair_code};
 ghost use Rattle.std.proofs.Common.{rules};
 
@@ -15,7 +16,7 @@ pub trait Coded: Label {
 
     /// The label with this number, if there is one.
     fn of_code(number: u32) -> Option<Self>
-        ensures { MatchOption result ((a : Self) → number ≢ code a) (λ a. number ≡ code a) };
+        ensures { Decodes result (λ a. number ≡ code a) };
 }
 
 /// A kind whose labels' numbers have 16 bits, so that two make a pair's.

@@ -1,5 +1,6 @@
 // Kinds of label by number: here, and nowhere else in the crate, one is picked and becomes a type.
-ghost use Rattle.std.specs.Prelude.{◌≡◌, MatchOption, Result as ResultD};
+ghost use Rattle.std.specs.Prelude.{◌≡◌, Result as ResultD};
+ghost use Rattle.boundary.specs.Decoding.{Decodes};
 ghost use Rattle.boundary.specs.Kinds.{OfKind, OfLabels, OfName, OfPairs, OfPairsFrom, kind_number};
 ghost use Rattle.boundary.specs.declared.faults.Fault.{Fault as FaultD};
 
@@ -47,8 +48,7 @@ trait SimpleTask {
 impl KindCode {
     /// The kind with this number, if there is one.
     pub fn numbered(number: u32) -> Option<KindCode>
-        ensures { MatchOption result ((kind : KindCode) → number ≡ kind_number kind → ⊥)
-            (λ kind. number ≡ kind_number kind) }
+        ensures { Decodes result (λ kind. number ≡ kind_number kind) }
     {
         match number {
             0 => Some(KindCode::One(KindName::Levels)),

@@ -1,6 +1,7 @@
 // Lists of structs of numbers, read and written.
 ghost use Rattle.std.specs.Prelude.{◌≡◌, IfOk, List, MatchResult, map};
-ghost use Rattle.boundary.specs.Calls.{CodesExchange, Unread, reply_code};
+ghost use Rattle.boundary.specs.Calls.{CodesExchange, reply_code};
+ghost use Rattle.boundary.specs.Decoding.{DecodesOnHeap, Unread};
 ghost use Rattle.boundary.specs.Parts.{CodesEach, CodesEntry, CodesNumber, CodesOperation};
 ghost use Rattle.boundary.specs.Parts.{entry_code, number_code};
 
@@ -18,7 +19,7 @@ pub trait Codes<T>: Copy {
 
     /// The value that the numbers code. Refuses numbers that code none.
     fn decode(self, heap: Global) -> Result<T, Fault>
-        ensures { MatchResult result (codes self) (Unread ((x : T) → codes self x → ⊥)) };
+        ensures { DecodesOnHeap result (codes self) };
 }
 
 impl<L: Coded> Codes<Labelled<L>> for NumberCode {

@@ -1,8 +1,6 @@
 // The parts of a station as structs of numbers.
-ghost use Rattle.std.specs.Prelude.{◌≡◌, Bool, cond, MatchOption};
-ghost use Rattle.machine.specs.declared.parts.Labelled.{Labelled as LabelledD};
-ghost use Rattle.machine.specs.declared.parts.Entry.{Entry as EntryD};
-ghost use Rattle.machine.specs.declared.parts.Operation.{Operation as OperationD};
+ghost use Rattle.std.specs.Prelude.{◌≡◌, cond};
+ghost use Rattle.boundary.specs.Decoding.{Decodes};
 ghost use Rattle.boundary.specs.Parts.{CodesEntry, CodesNumber, CodesOperation, entry_code};
 ghost use Rattle.boundary.specs.Parts.{number_code};
 
@@ -50,9 +48,7 @@ impl NumberCode {
 
     /// The number that these code, if they code one.
     pub fn number<L: Coded>(self) -> Option<Labelled<L>>
-        ensures { MatchOption result
-            ((v : LabelledD L) → CodesNumber L.Coded.code self v → ⊥)
-            (CodesNumber L.Coded.code self) }
+        ensures { Decodes result (CodesNumber L.Coded.code self) }
     {
         Some(Labelled {
             value: self.value,
@@ -64,9 +60,7 @@ impl NumberCode {
 impl OperationCode {
     /// The operation that these code, if they code one.
     pub fn operation<L: Coded>(self) -> Option<Operation<L>>
-        ensures { MatchOption result
-            ((op : OperationD L) → CodesOperation L.Coded.code self op → ⊥)
-            (CodesOperation L.Coded.code self) }
+        ensures { Decodes result (CodesOperation L.Coded.code self) }
     {
         match self.code {
             0 => Some(Operation::Push(Labelled {
@@ -115,9 +109,7 @@ impl EntryCode {
 
     /// The entry that these code, if they code one.
     pub fn entry<L: Coded>(self) -> Option<Entry<L>>
-        ensures { MatchOption result
-            ((e : EntryD L) → CodesEntry L.Coded.code self e → ⊥)
-            (CodesEntry L.Coded.code self) }
+        ensures { Decodes result (CodesEntry L.Coded.code self) }
     {
         let label = L::of_code(self.label)?;
         let place = self.number;
@@ -143,7 +135,7 @@ impl EntryCode {
 
 /// A yes or no, coded as 1 or 0, if the number is one of these.
 pub fn yes_or_no(code: u32) -> Option<bool>
-    ensures { MatchOption result ((b : Bool) → code ≡ cond b 1 0 → ⊥) (λ b. code ≡ cond b 1 0) }
+    ensures { Decodes result (λ b. code ≡ cond b 1 0) }
 {
     match code {
         0 => Some(false),

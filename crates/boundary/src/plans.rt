@@ -1,8 +1,6 @@
 // Plans as structs of numbers, and what is left of them once they were run.
-ghost use Rattle.std.specs.Prelude.{◌≡◌, IfOk, MatchResult, map};
-ghost use Rattle.sites.specs.declared.lending.Parts.{Parts as PartsD};
-ghost use Rattle.compare.specs.declared.plans.Plan.{Plan as PlanD};
-ghost use Rattle.boundary.specs.Calls.{Unread};
+ghost use Rattle.std.specs.Prelude.{◌≡◌, IfOk, map};
+ghost use Rattle.boundary.specs.Decoding.{DecodesOnHeap};
 ghost use Rattle.boundary.specs.Parts.{entry_code};
 ghost use Rattle.boundary.specs.Plans.{CodesParts, CodesPlan, CodesRan, RunsCode, end_code};
 ghost use Rattle.boundary.specs.Plans.{stack_of};
@@ -79,8 +77,7 @@ impl PlanCode<'_> {
         heap: Global,
         policy: P,
     ) -> Result<Plan<P, L>, Fault>
-        ensures { MatchResult result (CodesPlan L.Coded.code policy self.entry)
-            (Unread ((plan : PlanD P L) → CodesPlan L.Coded.code policy self.entry plan → ⊥)) }
+        ensures { DecodesOnHeap result (CodesPlan L.Coded.code policy self.entry) }
     {
         let parts = self.parts(heap)?;
         let exchanges = decoded(heap, self.calls)?;
@@ -93,8 +90,7 @@ impl PlanCode<'_> {
 
     // The parts that the numbers code.
     fn parts<L: Coded>(self, heap: Global) -> Result<Parts<L>, Fault>
-        ensures { MatchResult result (CodesParts L.Coded.code self.entry)
-            (Unread ((parts : PartsD L) → CodesParts L.Coded.code self.entry parts → ⊥)) }
+        ensures { DecodesOnHeap result (CodesParts L.Coded.code self.entry) }
     {
         let program = decoded(heap, self.program)?;
         let memory = decoded(heap, self.memory)?;
