@@ -1,2 +1,3 @@
+-- Lemmas that the proofs of several functions cite.
 mod Decoding
 mod Ends

@@ -1,4 +1,4 @@
--- The numbers that labels are coded by. Assumes nothing.
+-- The numbers that labels are coded by.
 use Rattle.std.specs.Prelude.{ℕ, ◌+◌, ◌*◌}
 use Rattle.labels.specs.declared.level.Level.{Level}
 use Rattle.labels.specs.Level.{rank}

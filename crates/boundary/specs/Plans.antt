@@ -1,7 +1,7 @@
--- What running a plan in numbers comes to. Assumes nothing.
+-- What running a plan in numbers comes to.
 use Rattle.std.specs.Prelude.{◌≡◌, ℕ, List, [], map, length, reverse, pos, Ok, Err, Result}
 use Rattle.labels.specs.Kind.{Kind}
-use Rattle.rules.specs.Tables.{Table}
+use Rattle.rules.specs.declared.Policy.{Ghosts as Policy}
 use Rattle.machine.specs.Numbers.{stop_number}
 use Rattle.machine.specs.Stations.{Station, idle, running, shut, commands_of, memory_of}
 use Rattle.machine.specs.declared.parts.Entry.{Entry}
@@ -10,17 +10,29 @@ use Rattle.compare.specs.declared.plans.Plan.{Plan}
 use Rattle.compare.specs.declared.plans.Ran.{Ran}
 use Rattle.sites.specs.declared.lending.Parts.{Parts}
 use Rattle.boundary.specs.Calls.{CodesExchange, reply_code}
-use Rattle.boundary.specs.Parts.{CodesEach, CodesEntry, CodesNumber, CodesOperation, entry_code, number_code}
+use Rattle.boundary.specs.Parts.{CodesEach, CodesEntry, CodesNumber, CodesOperation, entry_code}
+use Rattle.boundary.specs.Parts.{number_code}
 use Rattle.boundary.specs.declared.faults.Fault.{Fault}
 use Rattle.boundary.specs.declared.faults.Fault.TheVariants.{NoCode, OutOfMemory, Unmade}
 use Rattle.boundary.specs.declared.plans.End.{End}
 use Rattle.boundary.specs.declared.plans.PlanCode.{PlanCode}
 use Rattle.boundary.specs.declared.plans.RanCode.{RanCode}
 
+-- an end that says nothing
 abbrev pub blank_end : End
-blank_end = record { place = pos 0; depth = 0; commands = 0; code = 0; refusal = 0; part = 0; state = 0; label = 0 }
+blank_end = record {
+  place = pos 0;
+  depth = 0;
+  commands = 0;
+  code = 0;
+  refusal = 0;
+  part = 0;
+  state = 0;
+  label = 0;
+}
 
 module _ {L : Type 0} (code : L → ℕ) where
+  -- each part, element by element
   pub record CodesParts (c : PlanCode) (parts : Parts L) : Type 0 where
     pub program : CodesEach (CodesOperation code) c.program.now parts.program.items
     pub memory : CodesEach (CodesNumber code) c.memory.now parts.memory.items
@@ -30,8 +42,15 @@ module _ {L : Type 0} (code : L → ℕ) where
   -- The state, the commands in the log, and of a round the program counter and the entries in use.
   abbrev pub end_code : Station L → End
   end_code (idle kept) = record blank_end { commands = length kept.commands }
-  end_code (running s) = record blank_end { state = 1; place = s.pc; label = code s.pc_label; depth = length s.stack; commands = length s.kept.commands }
-  end_code (shut stop place kept) = record blank_end { state = stop_number stop; place = place; commands = length kept.commands }
+  end_code (running s) = record blank_end {
+    state = 1;
+    place = s.pc;
+    label = code s.pc_label;
+    depth = length s.stack;
+    commands = length s.kept.commands;
+  }
+  end_code (shut stop place kept) =
+      record blank_end { state = stop_number stop; place = place; commands = length kept.commands }
 
   -- the entries in use, the oldest first
   abbrev pub stack_of : Station L → List (Entry L)
@@ -54,10 +73,13 @@ module _ {P L : Type 0} (code : L → ℕ) (policy : P) where
     pub calls : CodesEach (CodesExchange code) c.calls.now plan.exchanges.items
     pub same_policy : plan.policy ≡ policy
 
-  -- A plan in numbers that is run: what is left of the plan that they code, or that making its station is refused, that they code
-  -- no plan, or that there was no memory.
-  abbrev pub Runs : Kind L → (P → Table L → Type 0) → PlanCode → Result RanCode Fault → Type 0
-  Runs kind faithful c (Ok told) = (plan : Plan P L) × CodesPlan c plan × ((ran : Ran P L) × RunsTo kind faithful plan (Ok ran) × CodesRan code told ran)
-  Runs kind faithful c (Err NoCode) = (plan : Plan P L) → CodesPlan c plan → ⊥
-  Runs kind faithful c (Err OutOfMemory) = Unit {0}
-  Runs kind faithful c (Err (Unmade why)) = (plan : Plan P L) × CodesPlan c plan × RunsTo kind faithful plan (Err why)
+  -- A plan in numbers that is run: what is left of the plan that they code, or that making
+  -- its station is refused, that they code no plan, or that there was no memory.
+  abbrev pub RunsCode : Kind L → Policy P L → PlanCode → Result RanCode Fault → Type 0
+  RunsCode kind ghosts c (Ok told) =
+      (plan : Plan P L) × CodesPlan c plan
+      × ((ran : Ran P L) × RunsTo kind ghosts plan (Ok ran) × CodesRan code told ran)
+  RunsCode kind ghosts c (Err NoCode) = (plan : Plan P L) → CodesPlan c plan → ⊥
+  RunsCode kind ghosts c (Err OutOfMemory) = Unit {0}
+  RunsCode kind ghosts c (Err (Unmade why)) =
+      (plan : Plan P L) × CodesPlan c plan × RunsTo kind ghosts plan (Err why)

@@ -1,4 +1,4 @@
--- What comparing two plans in numbers comes to. Assumes nothing.
+-- What comparing two plans in numbers comes to.
 use Rattle.std.specs.Prelude.{◌≡◌, ℕ, ◌<◌, ◌^◌, ℤ, pos, negsuc, None, Some, Option}
 use Rattle.machine.specs.Numbers.{refusal_number}
 use Rattle.compare.specs.declared.reports.Looks.{Looks}
@@ -20,6 +20,7 @@ CodesLooks c NotDue = (c.looks ≡ 0) × (c.cell ≡ negsuc 0)
 CodesLooks c Same = (c.looks ≡ 1) × (c.cell ≡ negsuc 0)
 CodesLooks c (DifferAt cell) = (c.looks ≡ 2) × CodesPlace c.cell (Some cell)
 
+-- where what the observer is given first differs, field by field
 pub record CodesReport (c : ReportCode) (report : Report) : Type 0 where
   pub programs : CodesPlace c.programs report.programs
   pub memories : CodesPlace c.memories report.memories
@@ -30,5 +31,7 @@ pub record CodesReport (c : ReportCode) (report : Report) : Type 0 where
 
 -- the station that was not made, and why
 abbrev pub CodesUnmade : ReportCode → Unmade → Type 0
-CodesUnmade c (First why) = (c.code ≡ 1) × (c.refusal ≡ refusal_number why) × (c.part ≡ refused_part why)
-CodesUnmade c (Second why) = (c.code ≡ 2) × (c.refusal ≡ refusal_number why) × (c.part ≡ refused_part why)
+CodesUnmade c (First why) =
+    (c.code ≡ 1) × (c.refusal ≡ refusal_number why) × (c.part ≡ refused_part why)
+CodesUnmade c (Second why) =
+    (c.code ≡ 2) × (c.refusal ≡ refusal_number why) × (c.part ≡ refused_part why)

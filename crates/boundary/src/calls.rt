@@ -1,25 +1,25 @@
-// Calls and replies as structs of numbers.
-ghost use Rattle.std.specs.Prelude.{◌≡◌, IfOk, MatchOption, MatchResult};
+// Calls, replies and states as structs of numbers.
+ghost use Rattle.std.specs.Prelude.{◌≡◌, IfOk};
 ghost use Rattle.sites.specs.Sites.{sizes_of};
-ghost use Rattle.sites.specs.declared.calls.Call.{Call as CallD};
-ghost use Rattle.compare.specs.declared.exchanges.Exchange.{Exchange as ExchangeD};
-ghost use Rattle.boundary.specs.Calls.{CodesCall, CodesExchange, Unread, part_code, refused_part, reply_code, state_code, state_place};
+ghost use Rattle.boundary.specs.Calls.{CodesCall, CodesExchange, part_code, refused_part, reply_code};
+ghost use Rattle.boundary.specs.Calls.{state_code, state_place};
+ghost use Rattle.boundary.specs.Decoding.{Decodes, DecodesOnHeap};
 
 use crate::codes::Coded;
 use crate::faults::Fault;
 use crate::parts::yes_or_no;
 use compare::{Exchange, Lent};
 use labels::Label;
-use machine::{Entry, Labelled, Operation, Part, Refusal};
-use sites::{Call, Parts, Reply, State};
+use machine::{Call, Entry, Labelled, Operation, Part, Refusal, State};
+use sites::{Parts, Reply};
 use std::alloc::{AllocError, Global};
 
-// A call: its number and what goes with it, and whether others' parts are lent in place of the station's own, of which lengths.
-// Fields that a call does not use say nothing.
+/// A call: its number and what goes with it, and whether others' parts are lent in place of
+/// the station's own, of which lengths. Fields that a call does not use say nothing.
 #[repr(C)]
 #[derive(Clone, Copy)]
 pub struct CallCode {
-    // the cell, the place or the fuel
+    /// the cell, the place or the fuel
     pub index: u64,
     pub code: u32,
     pub value: i32,
@@ -31,13 +31,13 @@ pub struct CallCode {
     pub log: u32,
 }
 
-// A reply. Fields that a reply does not use are 0, and so are all where there is none.
+/// A reply. Fields that a reply does not use are 0, and so are all where there is none.
 #[repr(C)]
 #[derive(Clone, Copy)]
 pub struct ReplyCode {
-    // the number shown, or the place of a stop
+    /// the number shown, or the place of a stop
     pub number: i64,
-    // the place of a command that was found
+    /// the place of a command that was found
     pub place: u64,
     pub code: u32,
     pub label: u32,
@@ -48,8 +48,9 @@ pub struct ReplyCode {
 }
 
 impl CallCode {
+    // The call that the numbers code, if they code one.
     fn call<L: Coded>(self) -> Option<Call<L>>
-        ensures { MatchOption result ((call : CallD L) → CodesCall L.Coded.code self call → ⊥) (CodesCall L.Coded.code self) }
+        ensures { Decodes result (CodesCall L.Coded.code self) }
     {
         match self.code {
             0 => Some(Call::Enter {
@@ -67,7 +68,7 @@ impl CallCode {
             3 => Some(Call::Go {
                 fuel: u32::try_from(self.index).ok()?,
             }),
-            4 => Some(Call::Command {
+            4 => Some(Call::NextCommand {
                 from: self.index as usize,
                 clearance: L::of_code(self.label)?,
             }),
@@ -75,9 +76,10 @@ impl CallCode {
         }
     }
 
-    // The call, to be made, with the parts that it is lent. Others' parts hold nothing of use: they are not the station's.
+    /// The call, to be made, with the parts that it is lent. Others'
+    /// parts hold nothing of use: they are not the station's.
     pub fn exchange<L: Coded>(self, heap: Global) -> Result<Exchange<L>, Fault>
-        ensures { MatchResult result (CodesExchange L.Coded.code self) (Unread ((e : ExchangeD L) → CodesExchange L.Coded.code self e → ⊥)) }
+        ensures { DecodesOnHeap result (CodesExchange L.Coded.code self) }
     {
         let Some(call) = self.call() else {
             return Err(Fault::NoCode);
@@ -94,8 +96,10 @@ impl CallCode {
         })
     }
 
+    // Parts of the lengths that the numbers say.
     fn others<L: Label>(self, heap: Global) -> Result<Parts<L>, AllocError>
-        ensures { IfOk result (λ parts. sizes_of parts ≡ record { program = self.program; memory = self.memory; stack = self.stack; log = self.log }) }
+        ensures { IfOk result (λ parts. sizes_of parts
+            ≡ record { program = self.program; memory = self.memory; stack = self.stack; log = self.log }) }
     {
         let zero = Labelled {
             value: 0,
@@ -122,6 +126,7 @@ const BLANK: ReplyCode = ReplyCode {
 };
 
 impl ReplyCode {
+    /// What a reply is coded by, or that there is none.
     pub fn of<L: Coded>(reply: Option<Reply<L>>) -> ReplyCode
         ensures { result ≡ reply_code L.Coded.code reply }
     {
@@ -167,6 +172,7 @@ impl ReplyCode {
     }
 }
 
+/// The number of a state: 0 idle, 1 running, or the number of the stop.
 pub fn state_code(state: State) -> u32
     ensures { result ≡ state_code state }
 {
@@ -177,6 +183,7 @@ pub fn state_code(state: State) -> u32
     }
 }
 
+/// The place of the stop, or 0 where there was none.
 pub fn state_place(state: State) -> i64
     ensures { result ≡ state_place state }
 {
@@ -186,15 +193,17 @@ pub fn state_place(state: State) -> i64
     }
 }
 
+/// The number of the part that a refusal is for, or 0 if it is for none.
 pub fn refused_part(why: Refusal) -> u32
     ensures { result ≡ refused_part why }
 {
-    match why {
-        Refusal::Limits(part) | Refusal::Length(part) => part_code(part),
-        Refusal::Cell | Refusal::Clearance => 0,
+    match why.part() {
+        Some(part) => part_code(part),
+        None => 0,
     }
 }
 
+// The number of a part, from 1 on.
 fn part_code(part: Part) -> u32
     ensures { result ≡ part_code part }
 {

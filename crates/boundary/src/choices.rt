@@ -1,28 +1,20 @@
-// Kinds of label and policies by number, and plans run with them.
-ghost use Rattle.std.specs.Prelude.{◌≡◌, MatchOption};
+// Policies by number, and plans run and compared with the kinds and policies that numbers choose.
+ghost use Rattle.std.specs.Prelude.{◌≡◌};
 ghost use Rattle.rules.specs.Policies.{CachedFaithful, DirectFaithful};
 ghost use Rattle.rules.specs.Rows.{RowsFaithful};
 ghost use Rattle.rules.specs.Tables.{published};
-ghost use Rattle.boundary.specs.Exports.{ReportsAs, ReportsUnder, RunsAs, RunsUnder, kind_number, policy_number};
+ghost use Rattle.boundary.specs.Decoding.{Decodes};
+ghost use Rattle.boundary.specs.Exports.{ReportsAs, ReportsUnder, RunsAs, RunsUnder, policy_number};
 
 use crate::codes::Coded;
 use crate::faults::Fault;
+use crate::kinds::{KindCode, Task};
 use crate::plans::{PlanCode, RanCode};
 use crate::reports::{ReportCode, report};
-use labels::{Growers, Level, Pair};
 use rules::{Cached, Direct, RowTable};
 use std::alloc::Global;
 
-#[derive(Clone, Copy)]
-pub enum KindCode {
-    Levels,
-    Growers,
-    LevelsLevels,
-    LevelsGrowers,
-    GrowersLevels,
-    GrowersGrowers,
-}
-
+/// A policy that can be chosen: one of the three, or a cache over a cache over the direct one.
 #[derive(Clone, Copy)]
 pub enum PolicyCode {
     Direct,
@@ -31,36 +23,55 @@ pub enum PolicyCode {
     CachedTwice,
 }
 
-impl KindCode {
-    pub fn numbered(number: u32) -> Option<KindCode>
-        ensures { MatchOption result ((kind : KindCode) → number ≡ kind_number kind → ⊥) (λ kind. number ≡ kind_number kind) }
-    {
-        match number {
-            0 => Some(KindCode::Levels),
-            1 => Some(KindCode::Growers),
-            2 => Some(KindCode::LevelsLevels),
-            3 => Some(KindCode::LevelsGrowers),
-            4 => Some(KindCode::GrowersLevels),
-            5 => Some(KindCode::GrowersGrowers),
-            _ => None,
-        }
-    }
+// A plan to be run, and the policy.
+#[derive(Clone, Copy)]
+struct Run<'a> {
+    heap: Global,
+    policy: PolicyCode,
+    plan: PlanCode<'a>,
+}
 
-    // Runs a plan with labels of this kind.
+impl Task for Run<'_> {
+    type Output = RanCode;
+
+    ghost promises = { λ run result L code kind. RunsUnder code kind run.policy run.plan result };
+
+    fn perform<L: Coded>(self) -> Result<RanCode, Fault> {
+        self.policy.run::<L>(self.heap, self.plan)
+    }
+}
+
+// Two plans to be compared at a level, and their policies' name.
+#[derive(Clone, Copy)]
+struct Compare<'a> {
+    heap: Global,
+    policy: PolicyCode,
+    level: u32,
+    one: PlanCode<'a>,
+    two: PlanCode<'a>,
+}
+
+impl Task for Compare<'_> {
+    type Output = ReportCode;
+
+    ghost promises = { λ both result L code kind.
+        ReportsUnder code kind both.policy both.level both.one both.two result };
+
+    fn perform<L: Coded>(self) -> Result<ReportCode, Fault> {
+        self.policy
+            .compare::<L>(self.heap, self.level, self.one, self.two)
+    }
+}
+
+impl KindCode {
+    /// Runs a plan with labels of this kind.
     pub fn run(self, heap: Global, policy: PolicyCode, plan: PlanCode<'_>) -> Result<RanCode, Fault>
         ensures { RunsAs self policy plan.entry result }
     {
-        match self {
-            KindCode::Levels => policy.run::<Level>(heap, plan),
-            KindCode::Growers => policy.run::<Growers>(heap, plan),
-            KindCode::LevelsLevels => policy.run::<Pair<Level, Level>>(heap, plan),
-            KindCode::LevelsGrowers => policy.run::<Pair<Level, Growers>>(heap, plan),
-            KindCode::GrowersLevels => policy.run::<Pair<Growers, Level>>(heap, plan),
-            KindCode::GrowersGrowers => policy.run::<Pair<Growers, Growers>>(heap, plan),
-        }
+        self.perform(Run { heap, policy, plan })
     }
 
-    // Compares two plans with labels of this kind.
+    /// Compares two plans with labels of this kind.
     pub fn compare(
         self,
         heap: Global,
@@ -71,26 +82,20 @@ impl KindCode {
     ) -> Result<ReportCode, Fault>
         ensures { ReportsAs self policy level one.entry two.entry result }
     {
-        match self {
-            KindCode::Levels => policy.compare::<Level>(heap, level, one, two),
-            KindCode::Growers => policy.compare::<Growers>(heap, level, one, two),
-            KindCode::LevelsLevels => policy.compare::<Pair<Level, Level>>(heap, level, one, two),
-            KindCode::LevelsGrowers => {
-                policy.compare::<Pair<Level, Growers>>(heap, level, one, two)
-            }
-            KindCode::GrowersLevels => {
-                policy.compare::<Pair<Growers, Level>>(heap, level, one, two)
-            }
-            KindCode::GrowersGrowers => {
-                policy.compare::<Pair<Growers, Growers>>(heap, level, one, two)
-            }
-        }
+        self.perform(Compare {
+            heap,
+            policy,
+            level,
+            one,
+            two,
+        })
     }
 }
 
 impl PolicyCode {
+    /// The policy with this number, if there is one.
     pub fn numbered(number: u32) -> Option<PolicyCode>
-        ensures { MatchOption result ((policy : PolicyCode) → number ≡ policy_number policy → ⊥) (λ policy. number ≡ policy_number policy) }
+        ensures { Decodes result (λ policy. number ≡ policy_number policy) }
     {
         match number {
             0 => Some(PolicyCode::Direct),
@@ -101,7 +106,8 @@ impl PolicyCode {
         }
     }
 
-    // Runs a plan under this policy. Each policy is a type of its own here, so that its answers are compiled into the run.
+    // Runs a plan under this policy. Each policy is a type of its own here, so that its answers are
+    // compiled into the run.
     fn run<L: Coded>(self, heap: Global, plan: PlanCode<'_>) -> Result<RanCode, Fault>
         ensures { RunsUnder L.Coded.code L.Label.kind self plan.entry result }
     {
@@ -144,14 +150,17 @@ impl PolicyCode {
     }
 }
 
+// The cached policy over the row table.
 fn cached<L: Coded>() -> Cached<RowTable, L>
     ensures { CachedFaithful (RowsFaithful L.Label.kind) result (published L.Label.kind) }
 {
     Cached::new(RowTable::new::<L>())
 }
 
+// A cache over a cache over the direct policy.
 fn cached_twice<L: Coded>() -> Cached<Cached<Direct, L>, L>
-    ensures { CachedFaithful (CachedFaithful (DirectFaithful L.Label.kind)) result (published L.Label.kind) }
+    ensures { CachedFaithful (CachedFaithful (DirectFaithful L.Label.kind))
+        result (published L.Label.kind) }
 {
     let below: Cached<Direct, L> = Cached::new(Direct::new::<L>());
     Cached::new(below)

@@ -1,23 +1,25 @@
 // How labels are coded by numbers.
-ghost use Rattle.std.specs.Prelude.{◌≡◌, ◌≢◌, ℕ, ◌<◌, MatchOption};
+ghost use Rattle.std.specs.Prelude.{◌≡◌, ℕ, ◌<◌};
+ghost use Rattle.boundary.specs.Decoding.{Decodes};
 ghost use Rattle.boundary.specs.Labels.{growers_code, level_code, pair_code};
 ghost use Rattle.std.proofs.Common.{rules};
 
 use labels::{Growers, Label, Level, Pair};
 
-// A kind of label whose labels have numbers of 32 bits.
+/// A kind of label whose labels have numbers of 32 bits.
 pub trait Coded: Label {
     ghost code: { Self → ℕ };
 
+    /// The number of the label.
     fn code(self) -> u32
         ensures { result ≡ code self };
 
-    // The label with this number, if there is one.
+    /// The label with this number, if there is one.
     fn of_code(number: u32) -> Option<Self>
-        ensures { MatchOption result ((a : Self) → number ≢ code a) (λ a. number ≡ code a) };
+        ensures { Decodes result (λ a. number ≡ code a) };
 }
 
-// A kind whose labels' numbers have 16 bits, so that two make a pair's.
+/// A kind whose labels' numbers have 16 bits, so that two make a pair's.
 pub trait Half: Coded {
     ghost halved: { (a : Self) → Self.code a < 65536 };
 }

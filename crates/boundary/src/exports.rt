@@ -1,17 +1,20 @@
 // The C functions. A slice is passed as a pointer and then a length; the heap takes no argument.
 ghost use Rattle.std.specs.Prelude.{◌≡◌, ◌⊎◌};
-ghost use Rattle.boundary.specs.Exports.{Chosen, CodesNoReport, Comparison, Ran, ReportsAs, RunsAll, fault_end, written};
+ghost use Rattle.boundary.specs.Exports.{Chosen, CodesNoReport, Comparison, ReportsAs, RunsAll};
+ghost use Rattle.boundary.specs.Exports.{RunsLists, fault_end, written};
 
 use crate::calls::{CallCode, ReplyCode, refused_part};
-use crate::choices::{KindCode, PolicyCode};
+use crate::choices::PolicyCode;
 use crate::faults::Fault;
+use crate::kinds::KindCode;
 use crate::parts::{EntryCode, NumberCode, OperationCode};
 use crate::plans::{BLANK, End, PlanCode, RanCode};
 use crate::reports::{self, ReportCode};
 use compare::Unmade;
 use std::alloc::Global;
 
-// Makes a station of the parts, makes the calls on it, and leaves the parts, the replies and the end as these leave them.
+/// Makes a station of the parts, makes the calls on it, and leaves the parts, the replies and the end as
+/// these leave them. Where that is not done the end says why, and all else stays as it was.
 #[unsafe(no_mangle)]
 pub extern "C" fn senggubat_run(
     heap: Global,
@@ -25,7 +28,10 @@ pub extern "C" fn senggubat_run(
     replies: &mut [ReplyCode],
     end: &mut End,
 )
-    ensures { Ran kind policy program.now memory.old memory.new stack.old stack.new log.old log.new calls.now replies.old replies.new end.new }
+    ensures { RunsLists kind policy program.now calls.now
+        (record { memory = memory.old; stack = stack.old; log = log.old; replies = replies.old })
+        (record { memory = memory.new; stack = stack.new; log = log.new; replies = replies.new })
+        end.new }
 {
     let plan = PlanCode {
         program,
@@ -46,6 +52,7 @@ pub extern "C" fn senggubat_run(
     }
 }
 
+// Runs the plan, if there is a reply for each call, with the kind and the policy of these numbers.
 fn run(
     heap: Global,
     kind: u32,
@@ -75,6 +82,7 @@ fn write_over<T: Copy>(places: &mut [T], values: &[T])
     places[..count].copy_from_slice(&values[..count]);
 }
 
+// The end that says why a plan was not run.
 fn fault_end(fault: Fault) -> End
     ensures { result ≡ fault_end fault }
 {
@@ -90,8 +98,8 @@ fn fault_end(fault: Fault) -> End
     }
 }
 
-// Runs two plans, each with a stack and a log of these lengths and a policy of its own of this name, and tells what an observer at
-// the level is given that differs.
+/// Runs two plans, each with a stack and a log of these lengths and a policy of its own of this name, and
+/// tells what an observer at the level is given that differs, or why there is nothing to tell.
 #[unsafe(no_mangle)]
 pub extern "C" fn senggubat_compare(
     heap: Global,
@@ -108,7 +116,11 @@ pub extern "C" fn senggubat_compare(
     other_calls: &[CallCode],
     report: &mut ReportCode,
 )
-    ensures { Comparison kind policy level stack log program.now memory.now calls.now other_program.now other_memory.now other_calls.now report.new ⊎ (report.new.code ≡ 4) }
+    ensures { Comparison kind policy level stack log
+        (record { program = program.now; memory = memory.now; calls = calls.now })
+        (record { program = other_program.now; memory = other_memory.now; calls = other_calls.now })
+        report.new
+        ⊎ (report.new.code ≡ 4) }
 {
     let zero = NumberCode { value: 0, label: 0 };
     let entry = EntryCode {
@@ -143,6 +155,7 @@ pub extern "C" fn senggubat_compare(
     };
 }
 
+// Compares the plans with the kind and the policy of these numbers.
 fn compare(
     heap: Global,
     kind: u32,
@@ -162,6 +175,7 @@ fn compare(
     kind.compare(heap, policy, level, one, two)
 }
 
+// A report that says why there is none.
 fn no_report(fault: Fault) -> ReportCode
     ensures { CodesNoReport fault result }
 {

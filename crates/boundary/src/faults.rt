@@ -5,9 +5,10 @@ ghost use Rattle.boundary.specs.declared.faults.Fault.TheVariants.{OutOfMemory};
 use machine::Refusal;
 use std::alloc::{AllocError, AllocFailed};
 
+/// Why a plan in numbers is not run or not compared.
 #[derive(Clone, Copy, PartialEq, Eq)]
 pub enum Fault {
-    // a number codes nothing
+    /// a number codes nothing
     NoCode,
     OutOfMemory,
     Unmade(Refusal),

@@ -6,6 +6,7 @@ mod choices;
 mod codes;
 mod exports;
 mod faults;
+mod kinds;
 mod lists;
 mod parts;
 mod plans;

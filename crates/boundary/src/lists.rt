@@ -1,7 +1,9 @@
 // Lists of structs of numbers, read and written.
 ghost use Rattle.std.specs.Prelude.{◌≡◌, IfOk, List, MatchResult, map};
-ghost use Rattle.boundary.specs.Calls.{CodesExchange, Unread, reply_code};
-ghost use Rattle.boundary.specs.Parts.{CodesEach, CodesEntry, CodesNumber, CodesOperation, entry_code, number_code};
+ghost use Rattle.boundary.specs.Calls.{CodesExchange, reply_code};
+ghost use Rattle.boundary.specs.Decoding.{DecodesOnHeap, Unread};
+ghost use Rattle.boundary.specs.Parts.{CodesEach, CodesEntry, CodesNumber, CodesOperation};
+ghost use Rattle.boundary.specs.Parts.{entry_code, number_code};
 
 use crate::calls::{CallCode, ReplyCode};
 use crate::codes::Coded;
@@ -11,12 +13,13 @@ use compare::Exchange;
 use machine::{Entry, Labelled, Operation};
 use std::alloc::{AllocError, Global};
 
-// A struct of numbers that codes a value.
+/// A struct of numbers that codes a value.
 pub trait Codes<T>: Copy {
     ghost codes: { Self → T → Type 0 };
 
+    /// The value that the numbers code. Refuses numbers that code none.
     fn decode(self, heap: Global) -> Result<T, Fault>
-        ensures { MatchResult result (codes self) (Unread ((x : T) → codes self x → ⊥)) };
+        ensures { DecodesOnHeap result (codes self) };
 }
 
 impl<L: Coded> Codes<Labelled<L>> for NumberCode {
@@ -51,9 +54,10 @@ impl<L: Coded> Codes<Exchange<L>> for CallCode {
     }
 }
 
-// The values that a list codes.
+/// The values that a list codes. Refuses a list with an element that codes none.
 pub fn decoded<C: Codes<T>, T: Drop>(heap: Global, codes: &[C]) -> Result<Vec<T>, Fault>
-    ensures { MatchResult result (λ all. CodesEach C.Codes.codes codes.now all.items) (Unread ((all : List T) → CodesEach C.Codes.codes codes.now all → ⊥)) }
+    ensures { MatchResult result (λ all. CodesEach C.Codes.codes codes.now all.items)
+        (Unread ((all : List T) → CodesEach C.Codes.codes codes.now all → ⊥)) }
 {
     let mut all = Vec::with_capacity(heap, codes.len())?;
     for code in codes {
@@ -62,6 +66,7 @@ pub fn decoded<C: Codes<T>, T: Drop>(heap: Global, codes: &[C]) -> Result<Vec<T>
     Ok(all)
 }
 
+/// The numbers of a memory or a log, coded one by one.
 pub fn coded_numbers<L: Coded>(
     heap: Global,
     numbers: &[Labelled<L>],
@@ -72,6 +77,7 @@ pub fn coded_numbers<L: Coded>(
     coded.collect(heap)
 }
 
+/// The entries of a stack, coded one by one.
 pub fn coded_entries<L: Coded>(
     heap: Global,
     entries: &[Entry<L>],
@@ -82,11 +88,13 @@ pub fn coded_entries<L: Coded>(
     coded.collect(heap)
 }
 
+/// The replies to calls, coded one by one.
 pub fn coded_replies<L: Coded>(
     heap: Global,
     exchanges: &[Exchange<L>],
 ) -> Result<Vec<ReplyCode>, AllocError>
-    ensures { IfOk result (λ all. all.items ≡ map (λ e. reply_code L.Coded.code e.reply) exchanges.now) }
+    ensures { IfOk result
+        (λ all. all.items ≡ map (λ e. reply_code L.Coded.code e.reply) exchanges.now) }
 {
     let coded = exchanges
         .iter()

@@ -1,14 +1,13 @@
 // The parts of a station as structs of numbers.
-ghost use Rattle.std.specs.Prelude.{◌≡◌, Bool, cond, MatchOption};
-ghost use Rattle.machine.specs.declared.parts.Labelled.{Labelled as LabelledD};
-ghost use Rattle.machine.specs.declared.parts.Entry.{Entry as EntryD};
-ghost use Rattle.machine.specs.declared.parts.Operation.{Operation as OperationD};
-ghost use Rattle.boundary.specs.Parts.{CodesEntry, CodesNumber, CodesOperation, entry_code, number_code};
+ghost use Rattle.std.specs.Prelude.{◌≡◌, cond};
+ghost use Rattle.boundary.specs.Decoding.{Decodes};
+ghost use Rattle.boundary.specs.Parts.{CodesEntry, CodesNumber, CodesOperation, entry_code};
+ghost use Rattle.boundary.specs.Parts.{number_code};
 
 use crate::codes::Coded;
 use machine::{Entry, Frame, Labelled, Operation};
 
-// A labelled number.
+/// A labelled number.
 #[repr(C)]
 #[derive(Clone, Copy)]
 pub struct NumberCode {
@@ -16,7 +15,8 @@ pub struct NumberCode {
     pub label: u32,
 }
 
-// An operation of a program: its number and what goes with it. Fields that an operation does not use say nothing.
+/// An operation of a program: its number and what goes with it. Fields that an operation does not
+/// use say nothing.
 #[repr(C)]
 #[derive(Clone, Copy)]
 pub struct OperationCode {
@@ -26,7 +26,7 @@ pub struct OperationCode {
     pub due: u32,
 }
 
-// An entry of the stack.
+/// An entry of the stack.
 #[repr(C)]
 #[derive(Clone, Copy)]
 pub struct EntryCode {
@@ -36,6 +36,7 @@ pub struct EntryCode {
 }
 
 impl NumberCode {
+    /// What a number is coded by.
     pub fn of<L: Coded>(number: Labelled<L>) -> NumberCode
         ensures { result ≡ number_code L.Coded.code number }
     {
@@ -45,8 +46,9 @@ impl NumberCode {
         }
     }
 
+    /// The number that these code, if they code one.
     pub fn number<L: Coded>(self) -> Option<Labelled<L>>
-        ensures { MatchOption result ((v : LabelledD L) → CodesNumber L.Coded.code self v → ⊥) (CodesNumber L.Coded.code self) }
+        ensures { Decodes result (CodesNumber L.Coded.code self) }
     {
         Some(Labelled {
             value: self.value,
@@ -56,8 +58,9 @@ impl NumberCode {
 }
 
 impl OperationCode {
+    /// The operation that these code, if they code one.
     pub fn operation<L: Coded>(self) -> Option<Operation<L>>
-        ensures { MatchOption result ((op : OperationD L) → CodesOperation L.Coded.code self op → ⊥) (CodesOperation L.Coded.code self) }
+        ensures { Decodes result (CodesOperation L.Coded.code self) }
     {
         match self.code {
             0 => Some(Operation::Push(Labelled {
@@ -86,6 +89,7 @@ impl OperationCode {
 }
 
 impl EntryCode {
+    /// What an entry is coded by.
     pub fn of<L: Coded>(entry: Entry<L>) -> EntryCode
         ensures { result ≡ entry_code L.Coded.code entry }
     {
@@ -103,8 +107,9 @@ impl EntryCode {
         }
     }
 
+    /// The entry that these code, if they code one.
     pub fn entry<L: Coded>(self) -> Option<Entry<L>>
-        ensures { MatchOption result ((e : EntryD L) → CodesEntry L.Coded.code self e → ⊥) (CodesEntry L.Coded.code self) }
+        ensures { Decodes result (CodesEntry L.Coded.code self) }
     {
         let label = L::of_code(self.label)?;
         let place = self.number;
@@ -128,9 +133,9 @@ impl EntryCode {
     }
 }
 
-// A yes or no, coded as 1 or 0.
+/// A yes or no, coded as 1 or 0, if the number is one of these.
 pub fn yes_or_no(code: u32) -> Option<bool>
-    ensures { MatchOption result ((b : Bool) → code ≡ cond b 1 0 → ⊥) (λ b. code ≡ cond b 1 0) }
+    ensures { Decodes result (λ b. code ≡ cond b 1 0) }
 {
     match code {
         0 => Some(false),

@@ -1,10 +1,9 @@
 // Plans as structs of numbers, and what is left of them once they were run.
-ghost use Rattle.std.specs.Prelude.{◌≡◌, IfOk, MatchResult, map};
-ghost use Rattle.sites.specs.declared.lending.Parts.{Parts as PartsD};
-ghost use Rattle.compare.specs.declared.plans.Plan.{Plan as PlanD};
-ghost use Rattle.boundary.specs.Calls.{Unread};
+ghost use Rattle.std.specs.Prelude.{◌≡◌, IfOk, map};
+ghost use Rattle.boundary.specs.Decoding.{DecodesOnHeap};
 ghost use Rattle.boundary.specs.Parts.{entry_code};
-ghost use Rattle.boundary.specs.Plans.{CodesParts, CodesPlan, CodesRan, Runs, end_code, stack_of};
+ghost use Rattle.boundary.specs.Plans.{CodesParts, CodesPlan, CodesRan, RunsCode, end_code};
+ghost use Rattle.boundary.specs.Plans.{stack_of};
 
 use crate::calls::{CallCode, ReplyCode, state_code, state_place};
 use crate::codes::Coded;
@@ -17,7 +16,7 @@ use rules::Policy;
 use sites::{Parts, Site};
 use std::alloc::{AllocError, Global};
 
-// What a station is made of and the calls to be made on it.
+/// What a station is made of and the calls to be made on it.
 #[derive(Clone, Copy)]
 pub struct PlanCode<'a> {
     pub program: &'a [OperationCode],
@@ -27,16 +26,17 @@ pub struct PlanCode<'a> {
     pub calls: &'a [CallCode],
 }
 
-// How a run ended. Fields that an end does not use are 0.
+/// How a run ended. Fields that an end does not use are 0.
 #[repr(C)]
 #[derive(Clone, Copy)]
 pub struct End {
-    // the place of the program counter, or of a stop
+    /// the place of the program counter, or of a stop
     pub place: i64,
-    // how many entries of the stack a round has in use, and how many commands there are
+    /// how many entries of the stack a round has in use, and how many commands there are
     pub depth: u64,
     pub commands: u64,
-    // 0 if the plan was run, 1 if its station was not made, 2 if a number codes nothing, 3 if there was no memory
+    /// 0 if the plan was run, 1 if its station was not made, 2
+    /// if a number codes nothing, 3 if there was no memory
     pub code: u32,
     pub refusal: u32,
     pub part: u32,
@@ -44,7 +44,8 @@ pub struct End {
     pub label: u32,
 }
 
-// What is left of a plan that was run: the memory, the entries of the stack in use, the commands and the replies.
+/// What is left of a plan that was run: the memory, the entries of the stack in use, the commands
+/// and the replies.
 #[derive(Drop)]
 pub struct RanCode {
     pub memory: Vec<NumberCode>,
@@ -55,13 +56,13 @@ pub struct RanCode {
 }
 
 impl PlanCode<'_> {
-    // Runs the plan with this policy.
+    /// Runs the plan with this policy. Refuses numbers that code no plan, and a station that cannot be made.
     pub fn run<P: Policy<L> + Drop, L: Coded>(
         self,
         heap: Global,
         policy: P,
     ) -> Result<RanCode, Fault>
-        ensures { Runs L.Coded.code policy L.Label.kind P.Policy.faithful self.entry result }
+        ensures { RunsCode L.Coded.code policy L.Label.kind P.Policy self.entry result }
     {
         let plan: Plan<P, L> = self.plan(heap, policy)?;
         match plan.run() {
@@ -70,13 +71,13 @@ impl PlanCode<'_> {
         }
     }
 
-    // The plan that the numbers code, with this policy.
+    /// The plan that the numbers code, with this policy. Refuses numbers that code none.
     pub fn plan<P: Policy<L> + Drop, L: Coded>(
         self,
         heap: Global,
         policy: P,
     ) -> Result<Plan<P, L>, Fault>
-        ensures { MatchResult result (CodesPlan L.Coded.code policy self.entry) (Unread ((plan : PlanD P L) → CodesPlan L.Coded.code policy self.entry plan → ⊥)) }
+        ensures { DecodesOnHeap result (CodesPlan L.Coded.code policy self.entry) }
     {
         let parts = self.parts(heap)?;
         let exchanges = decoded(heap, self.calls)?;
@@ -87,8 +88,9 @@ impl PlanCode<'_> {
         })
     }
 
+    // The parts that the numbers code.
     fn parts<L: Coded>(self, heap: Global) -> Result<Parts<L>, Fault>
-        ensures { MatchResult result (CodesParts L.Coded.code self.entry) (Unread ((parts : PartsD L) → CodesParts L.Coded.code self.entry parts → ⊥)) }
+        ensures { DecodesOnHeap result (CodesParts L.Coded.code self.entry) }
     {
         let program = decoded(heap, self.program)?;
         let memory = decoded(heap, self.memory)?;
@@ -103,6 +105,7 @@ impl PlanCode<'_> {
     }
 }
 
+// What is left of a run, coded.
 fn ran_code<P: Policy<L> + Drop, L: Coded>(
     heap: Global,
     ran: &Ran<P, L>,
@@ -120,6 +123,7 @@ fn ran_code<P: Policy<L> + Drop, L: Coded>(
     })
 }
 
+/// An end that says nothing.
 pub const BLANK: End = End {
     place: 0,
     depth: 0,
@@ -137,7 +141,8 @@ fn end_of<P: Policy<L> + Drop, L: Coded>(
     site: &Site<P, L>,
 ) -> Result<(End, Vec<EntryCode>), AllocError>
     ensures end { IfOk result (λ r. r.0 ≡ end_code L.Coded.code site.now.sited.station) }
-    ensures stack { IfOk result (λ r. r.1.items ≡ map (entry_code L.Coded.code) (stack_of L.Coded.code site.now.sited.station)) }
+    ensures stack { IfOk result (λ r. r.1.items
+        ≡ map (entry_code L.Coded.code) (stack_of L.Coded.code site.now.sited.station)) }
 {
     let commands = site.commands().len() as u64;
     match site.rehearse(heap)? {

@@ -10,25 +10,27 @@ use compare::{Looks, Report, Unmade, compare};
 use rules::Policy;
 use std::alloc::Global;
 
-// What an observer is told of two plans.
+/// What an observer is told of two plans.
 #[repr(C)]
 #[derive(Clone, Copy)]
 pub struct ReportCode {
-    // where programs, memories, calls and commands first differ, or -1
+    /// where programs, memories, calls and commands first differ, or -1
     pub programs: i64,
     pub memories: i64,
     pub calls: i64,
     pub commands: i64,
-    // the cell at which looks differ, or -1
+    /// the cell at which looks differ, or -1
     pub cell: i64,
-    // 0 if looks are not due, 1 if they are the same, 2 if they differ
+    /// 0 if looks are not due, 1 if they are the same, 2 if they differ
     pub looks: u32,
-    // 0 if they were compared, 1 or 2 if the first or the second station was not made, 3 if a number codes nothing, 4 if there was no memory
+    /// 0 if they were compared, 1 or 2 if the first or the second station was not made, 3 if a
+    /// number codes nothing, 4 if there was no memory
     pub code: u32,
     pub refusal: u32,
     pub part: u32,
 }
 
+/// A report that says nothing.
 pub const BLANK: ReportCode = ReportCode {
     programs: 0,
     memories: 0,
@@ -41,7 +43,8 @@ pub const BLANK: ReportCode = ReportCode {
     part: 0,
 };
 
-// Compares two plans, each under its policy, as an observer at the level with this number sees them.
+/// Compares two plans, each under its policy, as an observer at the level with this number sees
+/// them.
 pub fn report<P: Policy<L> + Drop, L: Coded>(
     heap: Global,
     level: u32,
@@ -50,7 +53,8 @@ pub fn report<P: Policy<L> + Drop, L: Coded>(
     two: PlanCode<'_>,
     second: P,
 ) -> Result<ReportCode, Fault>
-    ensures { Reported L.Coded.code L.Label.kind P.Policy.faithful level one.entry two.entry first second result }
+    ensures { Reported L.Coded.code L.Label.kind P.Policy
+        level one.entry two.entry first second result }
 {
     let Some(level) = L::of_code(level) else {
         return Err(Fault::NoCode);
@@ -64,6 +68,7 @@ pub fn report<P: Policy<L> + Drop, L: Coded>(
 }
 
 impl ReportCode {
+    /// What a report is coded by.
     pub fn of(report: Report) -> ReportCode
         ensures { CodesReport result report }
     {
@@ -83,6 +88,7 @@ impl ReportCode {
         }
     }
 
+    /// What is said of stations of which one was not made.
     pub fn unmade(unmade: Unmade) -> ReportCode
         ensures { CodesUnmade result unmade }
     {
@@ -99,6 +105,7 @@ impl ReportCode {
     }
 }
 
+// A place, or -1 for none.
 fn place_code(place: Option<usize>) -> i64
     ensures { CodesPlace result place }
 {

@@ -2,9 +2,9 @@
 use compare::{Compared, Exchange, Lent, Looks, Plan, Report, Unmade, compare};
 use labels::Level;
 use labels::Level::{L0, L1, L2};
-use machine::{Entry, Labelled, Operation, Part, Refusal};
+use machine::{Call, Entry, Labelled, Operation, Part, Refusal};
 use rules::{Cached, Direct, RowTable};
-use sites::{Call, Parts, Reply};
+use sites::{Parts, Reply};
 use std::alloc::{AllocError, Global};
 use std::test::Fail;
 

@@ -1,0 +1,1 @@
+-- No function of this program needs a lemma of its own.

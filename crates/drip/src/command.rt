@@ -6,7 +6,7 @@ use std::alloc::{AllocFailed, Global};
 use std::error::Error;
 use std::fmt;
 
-// What is asked of the program.
+/// What is asked of the program.
 #[derive(Clone, Copy)]
 pub enum Command<'a> {
     Run(OneSheet<'a>),
@@ -14,21 +14,21 @@ pub enum Command<'a> {
     Trace(OneSheet<'a>),
     Compare(TwoSheets<'a>),
     Rules(Rules<'a>),
-    // `drip demo --policy POLICY`
+    /// `drip demo --policy POLICY`
     Demo(PolicyName),
-    // the page of a command
+    /// the page of a command
     Help(Name),
     Version,
 }
 
-// `drip run SHEET --policy POLICY`, and so `drip key` and `drip trace`
+/// `drip run SHEET --policy POLICY`, and so `drip key` and `drip trace`
 #[derive(Clone, Copy)]
 pub struct OneSheet<'a> {
     pub file: &'a str,
     pub policy: PolicyName,
 }
 
-// `drip compare SHEET SHEET LABEL --policy POLICY`
+/// `drip compare SHEET SHEET LABEL --policy POLICY`
 #[derive(Clone, Copy, Debug)]
 pub struct TwoSheets<'a> {
     pub first: &'a str,
@@ -37,7 +37,7 @@ pub struct TwoSheets<'a> {
     pub policy: PolicyName,
 }
 
-// `drip rules KIND FILE --policy POLICY`
+/// `drip rules KIND FILE --policy POLICY`
 #[derive(Clone, Copy)]
 pub struct Rules<'a> {
     pub kind: Kind,
@@ -45,7 +45,7 @@ pub struct Rules<'a> {
     pub file: &'a str,
 }
 
-// A command by its name.
+/// A command by its name.
 #[derive(Clone, Copy, Debug)]
 pub enum Name {
     Run,
@@ -58,7 +58,7 @@ pub enum Name {
     Version,
 }
 
-// What is wrong with a command line.
+/// What is wrong with a command line. Displayed it says what is wrong and what was expected.
 #[derive(Clone, Copy, Debug)]
 pub enum Misuse<'a> {
     UnknownCommand(&'a str),
@@ -83,7 +83,7 @@ struct Words<'a> {
 }
 
 impl Command<'_> {
-    // The command that the words after the program's own name give.
+    /// The command that the words after the program's own name give, or what is wrong with them.
     pub fn parse(heap: Global, words: &[String]) -> Result<Command<'_>, Misuse<'_>> {
         let [word, rest @ ..] = words else {
             return Ok(Command::Help(Name::Help));
@@ -120,6 +120,7 @@ fn version(words: &[String]) -> Result<Command<'_>, Misuse<'_>> {
 }
 
 impl Name {
+    // The command with this name, or with the option that stands for it.
     fn parse(word: &str) -> Result<Name, Misuse<'_>> {
         match word {
             "run" => Ok(Name::Run),
@@ -148,7 +149,8 @@ impl Name {
 }
 
 impl<'a> Words<'a> {
-    // The options may stand anywhere, so the loop takes them out, each with its value, and keeps the plain words.
+    // The options may stand anywhere, so the loop takes them
+    // out, each with its value, and keeps the plain words.
     fn parse(heap: Global, command: Name, words: &'a [String]) -> Result<Words<'a>, Misuse<'a>> {
         let mut plain = Vec::new(heap);
         let mut policy = PolicyName::Cached;
@@ -178,6 +180,7 @@ impl<'a> Words<'a> {
         }
     }
 
+    // One sheet and the policy.
     fn one_sheet(self) -> Result<OneSheet<'a>, Misuse<'a>> {
         match self.plain.as_slice() {
             [] => Err(Misuse::TooFew(self.command)),
@@ -189,6 +192,7 @@ impl<'a> Words<'a> {
         }
     }
 
+    // Two sheets, a label and the policy. Standard input can be one of them alone.
     fn two_sheets(self) -> Result<TwoSheets<'a>, Misuse<'a>> {
         match self.plain.as_slice() {
             [] | [_] | [_, _] => Err(Misuse::TooFew(self.command)),
@@ -203,6 +207,7 @@ impl<'a> Words<'a> {
         }
     }
 
+    // A kind of label, a file of questions and the policy.
     fn rules(self) -> Result<Rules<'a>, Misuse<'a>> {
         let policy = self.policy;
         match self.plain.as_slice() {
@@ -240,7 +245,8 @@ impl fmt::Display for Name {
     }
 }
 
-// By hand, as every text here: the crates stand on the standard library alone, which has no derive for it.
+// By hand, as every text here: the crates stand on the
+// standard library alone, which has no derive for it.
 impl fmt::Display for Misuse<'_> {
     fn fmt<W: fmt::Write>(&self, f: &mut fmt::Formatter<W>) -> fmt::Result {
         match *self {

@@ -9,6 +9,7 @@ use policies::{AnyPolicy, PolicyName};
 use readings::Readings;
 use text::label_named;
 
+// Two sheets of the same kind, the label of an observer, and the policy.
 #[derive(Clone, Copy)]
 struct TwoStations<'a> {
     first: SheetFile<'a>,
@@ -17,7 +18,8 @@ struct TwoStations<'a> {
     policy: PolicyName,
 }
 
-// Compares the stations of two sheets.
+/// Runs two sheets and prints what an observer is given of each. Refuses
+/// sheets of different kinds of label, and a label of another kind.
 pub fn show(asked: TwoSheets<'_>, console: &mut Console<'_>) -> Result<(), Failure> {
     let first = sheet_file::read(asked.first, console)?;
     let second = sheet_file::read(asked.second, console)?;
@@ -77,6 +79,7 @@ impl Task for TwoStations<'_> {
     }
 }
 
+// Prints the comparison. It fails if something differs that the proof of `compare` rules out.
 fn print<L: Readings>(both: SideBySide<'_, L>, console: &mut Console<'_>) -> Result<(), Failure> {
     print_inputs(&both, console)?;
     console.line("")?;

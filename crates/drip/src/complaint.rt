@@ -1,10 +1,12 @@
-// What is wrong with a file of questions, as it is told on standard error. It borrows the line or the error that it
-// tells of, so it is told where it comes up, and is never returned as an error itself.
+// What is wrong with a file of questions, as it is told on standard error.
+//
+// It borrows the line or the error that it tells of, so it is told where it comes up, and is never
+// returned as an error itself.
 use sheets::Kind;
 use std::{fmt, io};
 use text::Fault;
 
-// In which line of which file; line 0 is the file itself.
+/// What is wrong, and in which line of which file; line 0 is the file itself.
 #[derive(Drop)]
 pub struct Complaint<'a> {
     pub file: &'a str,
@@ -12,13 +14,15 @@ pub struct Complaint<'a> {
     pub problem: Problem<'a>,
 }
 
+/// What can be wrong with a file of questions. Displayed it says what is wrong and what was
+/// expected.
 #[derive(Drop)]
 pub enum Problem<'a> {
-    // The file cannot be opened.
+    /// The file cannot be opened.
     Unopened(&'a io::Error),
-    // The line cannot be read.
+    /// The line cannot be read.
     Unread(&'a io::Error),
-    // The line is no question for labels of this kind.
+    /// The line is no question for labels of this kind.
     NoQuestion(Fault<'a>, Kind),
 }
 
@@ -46,7 +50,8 @@ impl fmt::Display for Problem<'_> {
             Problem::NoQuestion(Fault::Operation(word), _) => {
                 write!(
                     f,
-                    "{word:?} is no operation; expected push, pop, noop, add, sub, less, load, store, jump, bnz, call, return or output"
+                    "{word:?} is no operation; expected push, pop, noop, add, sub, less, load, store, jump, \
+                    bnz, call, return or output"
                 )
             }
             Problem::NoQuestion(Fault::Label(word), kind) => {

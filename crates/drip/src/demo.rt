@@ -1,10 +1,10 @@
-// `drip demo`: two growers on one drip line, told as a short tutorial, from making their station to reading its log.
+// `drip demo`: two growers on one drip line and the station on it, told as a short tutorial.
 use crate::{Console, Failure};
 use labels::Growers;
-use machine::{Entry, Labelled, Operation};
+use machine::{Call, Entry, Labelled, Operation};
 use policies::{AnyPolicy, PolicyName};
 use readings::Logged;
-use sites::{Answered, Call, Making, Parts, Reply, Site};
+use sites::{Answered, Making, Parts, Reply, Site};
 use std::alloc::{AllocError, Global};
 use std::io;
 
@@ -41,7 +41,7 @@ impl From<io::Error> for Early {
     }
 }
 
-// One run of `drip demo`: where it writes, and the policy of its station.
+/// One run of `drip demo`: where it writes, and the policy of its station.
 #[derive(Drop)]
 pub struct Demo<'c, 'a> {
     console: &'c mut Console<'a>,
@@ -49,11 +49,13 @@ pub struct Demo<'c, 'a> {
 }
 
 impl<'c, 'a> Demo<'c, 'a> {
+    /// A run of `drip demo` that writes there, with this policy.
     pub fn new(console: &'c mut Console<'a>, policy: PolicyName) -> Demo<'c, 'a> {
         Demo { console, policy }
     }
 
-    // Tells the story of the station, to its end or to a call that the station does not take, and then the station's state.
+    /// Tells the story of the station, to its end or to a call that the
+    /// station does not take, and then the station's state.
     pub fn show(&mut self) -> Result<(), Failure> {
         self.tell(OPENING)?;
         self.tell("The station is made of that program, three cells, a stack and a log.")?;
@@ -87,6 +89,7 @@ impl<'c, 'a> Demo<'c, 'a> {
         self.play_second_round(site)
     }
 
+    // The readings are entered, and looked at.
     fn play_readings(&mut self, site: SharedSite) -> Result<SharedSite, Early> {
         self.tell("Each grower's reading is entered into a cell, with that grower's label.")?;
         let site = self.call(site, enter(0, 40, GROWER_0))?;
@@ -96,6 +99,7 @@ impl<'c, 'a> Demo<'c, 'a> {
         self.call(site, look(0, GROWER_1))
     }
 
+    // A round in two goes, and its commands.
     fn play_first_round(&mut self, site: SharedSite) -> Result<SharedSite, Early> {
         self.tell("A round starts. The first go has fuel for three steps, which is too little.")?;
         let site = self.call(site, Call::Start)?;
@@ -107,6 +111,7 @@ impl<'c, 'a> Demo<'c, 'a> {
         Ok(site)
     }
 
+    // The questions for the next command.
     fn play_questions(&mut self, site: SharedSite) -> Result<SharedSite, Early> {
         self.tell(
             "The next command for whoever is cleared for grower 1 alone (0002): the flush,
@@ -119,6 +124,7 @@ and then none, since the other two can carry grower 0's reading.",
         self.call(site, next_command(2, BOTH))
     }
 
+    // A new reading, and a round in one go.
     fn play_second_round(&mut self, site: SharedSite) -> Result<SharedSite, Early> {
         self.tell("Between two rounds a new reading may be entered, here grower 1's.")?;
         let site = self.call(site, enter(1, 30, GROWER_1))?;
@@ -132,7 +138,8 @@ and then none, since the other two can carry grower 0's reading.",
         self.call(site, next_command(4, GROWER_1))
     }
 
-    // Makes a call and prints it with its answer. One that the station does not take ends the story.
+    // Makes a call and prints it with its answer. One that the station does not take ends the
+    // story.
     fn call(&mut self, site: SharedSite, call: Call<Growers>) -> Result<SharedSite, Early> {
         let (site, reply) = site.call(call);
         self.console.line(Answered { call, reply })?;
@@ -175,7 +182,7 @@ fn look(cell: usize, clearance: Growers) -> Call<Growers> {
 }
 
 fn next_command(from: usize, clearance: Growers) -> Call<Growers> {
-    Call::Command { from, clearance }
+    Call::NextCommand { from, clearance }
 }
 
 // The four parts, with nothing entered yet.
@@ -189,7 +196,8 @@ fn parts(heap: Global) -> Result<Parts<Growers>, AllocError> {
     })
 }
 
-// Its pushed numbers are the installer's own, so they are labelled 0000. The comments have the places.
+// The program. Its pushed numbers are the installer's own, so
+// they are labelled 0000. The comments have the places.
 fn program(heap: Global) -> Result<Vec<Operation<Growers>>, AllocError> {
     let push = |value| Operation::Push(Labelled {
         value,

@@ -1,12 +1,13 @@
+// How the program ends where it does not end well.
 use std::alloc::{AllocError, AllocFailed};
 use std::io;
 
-// Why the program ends with status 1.
+/// Why the program ends with status 1.
 #[derive(Drop)]
 pub enum Failure {
-    // What is wrong was told.
+    /// What is wrong was told.
     Told,
-    // The arguments are no text, there was no memory, or nothing could be written.
+    /// The arguments are no text, there was no memory, or nothing could be written.
     Io(io::Error),
 }
 

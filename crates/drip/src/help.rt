@@ -1,9 +1,10 @@
 // The pages of `drip help`.
 use crate::command::Name;
 
+/// The line of `drip --version`.
 pub const VERSION: &str = "drip 0.1.0";
 
-// The page of a command. That of help itself is the usage of all.
+/// The page of a command. That of help itself is the usage of all.
 pub fn page(name: Name) -> &'static str {
     match name {
         Name::Run => RUN,

@@ -2,13 +2,13 @@
 use crate::table::{Side, Table};
 use crate::{Console, Failure};
 use compare::Exchange;
-use machine::{Labelled, Operation};
+use machine::{Call, Labelled, Operation};
 use readings::Readings;
-use sites::Call;
 use std::alloc::{AllocError, Global};
 use std::fmt;
 
-// What a run's labels stand on: the cells as the station was made of them, the program, the calls and the commands.
+/// What a run's labels stand on: the cells as the station was
+/// made of them, the program, the calls and the commands.
 #[derive(Clone, Copy)]
 pub struct Key<'a, L> {
     pub cells: &'a [Labelled<L>],
@@ -28,7 +28,7 @@ struct Reach<'a, L> {
 #[derive(Clone, Copy)]
 struct Places<'a, L>(Reach<'a, L>);
 
-// Prints a row for each command, and then a line for each source that occurs.
+/// Prints a row for each command, and then a line for each source that occurs.
 pub fn print_key<L: Readings>(key: Key<'_, L>, console: &mut Console<'_>) -> Result<(), Failure> {
     console.print(key.table(console.heap())?)?;
     console.line("")?;
@@ -41,6 +41,7 @@ pub fn print_key<L: Readings>(key: Key<'_, L>, console: &mut Console<'_>) -> Res
 }
 
 impl<'a, L: Readings> Key<'a, L> {
+    // A row for each command, with whose readings it can carry.
     fn table(&self, heap: Global) -> Result<Table, AllocError> {
         let sides = [Side::Right, Side::Right, Side::Left, Side::Left];
         let mut table = Table::new(heap, &sides)?;
@@ -78,6 +79,7 @@ impl<'a, L: Readings> Key<'a, L> {
             || self.exchanges.iter().any(entered)
     }
 
+    // The commands that the readings of a source can reach.
     fn reach(&self, source: usize) -> Reach<'a, L> {
         Reach {
             source,
@@ -87,6 +89,7 @@ impl<'a, L: Readings> Key<'a, L> {
 }
 
 impl<L: Readings> Reach<'_, L> {
+    // How many they are.
     fn count(&self) -> usize {
         self.commands
             .iter()

@@ -1,36 +1,61 @@
-// Kinds of label. A kind is a type to the rest of the program: here, and nowhere else, one is picked by its name.
+// Kinds of label: here, and nowhere else in the program, one is picked by its name and becomes a type.
 use crate::{Console, Failure};
 use labels::{Growers, Level, Pair};
 use readings::Readings;
 use sheets::{Kind, KindName};
 use std::fmt;
+use std::marker::PhantomData;
 
-// What can be done with labels of every kind.
+/// What can be done with labels of every kind.
 pub trait Task {
+    /// Does it with labels of the kind that was picked.
     fn perform<L: Readings>(self, console: &mut Console<'_>) -> Result<(), Failure>;
 }
 
-// Performs a task with labels of this kind.
+/// Performs a task with labels of this kind.
 pub fn perform<T: Task>(kind: Kind, task: T, console: &mut Console<'_>) -> Result<(), Failure> {
     match kind {
-        Kind::One(KindName::Levels) => task.perform::<Level>(console),
-        Kind::One(KindName::Growers) => task.perform::<Growers>(console),
-        Kind::Pair(KindName::Levels, KindName::Levels) => {
-            task.perform::<Pair<Level, Level>>(console)
-        }
-        Kind::Pair(KindName::Levels, KindName::Growers) => {
-            task.perform::<Pair<Level, Growers>>(console)
-        }
-        Kind::Pair(KindName::Growers, KindName::Levels) => {
-            task.perform::<Pair<Growers, Level>>(console)
-        }
-        Kind::Pair(KindName::Growers, KindName::Growers) => {
-            task.perform::<Pair<Growers, Growers>>(console)
-        }
+        Kind::One(name) => with_kind(name, task, console),
+        Kind::Pair(left, right) => with_kind(left, OnPairs { right, task }, console),
     }
 }
 
-// A kind as it is named in a sheet.
+// Performs a task with labels of a simple kind. A new kind is an arm here, and its pairs come with it.
+fn with_kind<T: Task>(name: KindName, task: T, console: &mut Console<'_>) -> Result<(), Failure> {
+    match name {
+        KindName::Levels => task.perform::<Level>(console),
+        KindName::Growers => task.perform::<Growers>(console),
+    }
+}
+
+// A task on pairs: performed with the left kind, it picks the right one.
+struct OnPairs<T> {
+    right: KindName,
+    task: T,
+}
+
+impl<T: Task> Task for OnPairs<T> {
+    fn perform<A: Readings>(self, console: &mut Console<'_>) -> Result<(), Failure> {
+        let OnPairs { right, task } = self;
+        let left = PhantomData;
+        with_kind(right, OnPairsFrom::<A, T> { left, task }, console)
+    }
+}
+
+// A task on pairs whose left kind is A: performed with the right one, it does the task on the pairs.
+struct OnPairsFrom<A, T> {
+    left: PhantomData<A>,
+    task: T,
+}
+
+impl<A: Readings, T: Task> Task for OnPairsFrom<A, T> {
+    fn perform<B: Readings>(self, console: &mut Console<'_>) -> Result<(), Failure> {
+        let OnPairsFrom { left: _, task } = self;
+        task.perform::<Pair<A, B>>(console)
+    }
+}
+
+/// A kind as it is named in a sheet.
 #[derive(Clone, Copy)]
 pub struct Named(pub Kind);
 

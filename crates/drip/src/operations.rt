@@ -1,16 +1,16 @@
 // Operations as they stand in a sheet.
 use labels::Label;
 use machine::Operation;
-use sites::Written;
 use std::fmt;
 
+/// An operation as it stands in a sheet, as `push 5@0001`.
 #[derive(Clone, Copy)]
 pub struct Spelled<L>(pub Operation<L>);
 
 impl<L: Label> fmt::Display for Spelled<L> {
     fn fmt<W: fmt::Write>(&self, f: &mut fmt::Formatter<W>) -> fmt::Result {
         match self.0 {
-            Operation::Push(number) => write!(f, "push {}", Written(number)),
+            Operation::Push(number) => write!(f, "push {number}"),
             Operation::Pop => write!(f, "pop"),
             Operation::Noop => write!(f, "noop"),
             Operation::Add => write!(f, "add"),

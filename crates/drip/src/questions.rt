@@ -1,4 +1,4 @@
-// `drip rules`: questions from a file or standard input, answered by a policy that is true to the published rows.
+// `drip rules`: questions from a file, answered by a policy that is true to the published rows.
 ghost use Rattle.rules.specs.Tables.{published};
 ghost use Rattle.text.specs.Answers.{Answers, ByTable};
 
@@ -31,6 +31,7 @@ impl<P: Policy<L>, L: Label> Model for Faithful<P, L> {
 }
 
 impl<P: Policy<L>, L: Label> Faithful<P, L> {
+    // The policy, which is to be true to the published rows.
     fn new(policy: P) -> Faithful<P, L>
         requires { P.Policy.faithful policy (published L.Label.kind) }
     {
@@ -52,7 +53,8 @@ impl<P: Policy<L>, L: Label> Faithful<P, L> {
 // Labels of one kind, and the policy that is asked.
 type Asked<L> = Faithful<AnyPolicy<L>, L>;
 
-// Answers what is asked, with labels of the kind that is asked for.
+/// Answers the questions of a file, with labels of the kind that is asked for. Refuses
+/// a file that cannot be read; a line that is no question ends the answers.
 pub fn show(asked: Rules<'_>, console: &mut Console<'_>) -> Result<(), Failure> {
     kinds::perform(asked.kind, asked, console)
 }
@@ -72,6 +74,7 @@ impl Task for Rules<'_> {
 }
 
 impl Rules<'_> {
+    // Answers the lines of a file, up to one that is no question.
     fn answer_lines<L: Label, R: Read + Drop>(
         self,
         mut policy: Asked<L>,
@@ -89,6 +92,7 @@ impl Rules<'_> {
         Ok(())
     }
 
+    // Answers a line, if there is a question on it.
     fn answer_one<L: Label>(
         self,
         policy: &mut Asked<L>,

@@ -9,13 +9,13 @@ ghost use Rattle.sheets.specs.Sheets.{ReadsSheet};
 use crate::{Console, Failure};
 use compare::{Exchange, Plan};
 use labels::Label;
+use machine::Call;
 use policies::{AnyPolicy, PolicyName};
 use sheets::{Fault, Kind, Sheet, kind_of, text_of};
-use sites::Call;
 use std::alloc::{AllocError, Global};
 use std::{fmt, io};
 
-// A sheet's text, the file that it was read from, and its kind of label.
+/// A sheet's text, the file that it was read from, and its kind of label.
 #[derive(Clone, Copy)]
 pub struct SheetFile<'a> {
     pub name: &'a str,
@@ -37,7 +37,7 @@ struct Unread<'a> {
     why: &'a io::Error,
 }
 
-// All bytes of a sheet.
+/// All bytes of a sheet. Refuses a file that cannot be read.
 pub fn read(file: &str, console: &mut Console<'_>) -> Result<Vec<u8>, Failure> {
     match console.read(file) {
         Ok(bytes) => Ok(bytes),
@@ -46,7 +46,8 @@ pub fn read(file: &str, console: &mut Console<'_>) -> Result<Vec<u8>, Failure> {
 }
 
 impl<'a> SheetFile<'a> {
-    // The sheet that these bytes of a file are, if they are text and name a kind of label.
+    /// The sheet that these bytes of a file are. Refuses bytes that are no text or name no kind of
+    /// label.
     pub fn new(
         name: &'a str,
         bytes: &'a [u8],
@@ -57,7 +58,7 @@ impl<'a> SheetFile<'a> {
         Ok(SheetFile { name, text, kind })
     }
 
-    // What the sheet gives, read with labels of its kind.
+    /// What the sheet gives, read with labels of its kind. Refuses a sheet with something wrong.
     pub fn parse<L: Label>(self, console: &mut Console<'_>) -> Result<Sheet<L>, Failure>
         ensures { IfOk result (ReadsSheet L.Label.text L.Label.kind.bottom self.entry.text.now) }
     {
@@ -66,14 +67,17 @@ impl<'a> SheetFile<'a> {
     }
 }
 
-// The station of a sheet, to be made with this policy, which is true to the published rows, and the sheet's calls on it.
+/// The station of a sheet, to be made with this policy, which is
+/// true to the published rows, and the sheet's calls on it.
 pub fn plan_of<L: Label>(
     heap: Global,
     sheet: Sheet<L>,
     policy: PolicyName,
 ) -> Result<Plan<AnyPolicy<L>, L>, AllocError>
-    ensures faithful { IfOk result (λ plan. AnyFaithful L.Label.kind plan.policy (published L.Label.kind)) }
-    ensures parts { IfOk result (λ plan. GivesParts L.Label.kind.bottom sheet plan.parts sheet.calls.items) }
+    ensures faithful { IfOk result
+        (λ plan. AnyFaithful L.Label.kind plan.policy (published L.Label.kind)) }
+    ensures parts { IfOk result
+        (λ plan. GivesParts L.Label.kind.bottom sheet plan.parts sheet.calls.items) }
     ensures calls { IfOk result (λ plan. plan.exchanges.items ≡ map own_call sheet.calls.items) }
 {
     let (parts, calls) = sheet.into_parts(heap)?;
@@ -84,6 +88,7 @@ pub fn plan_of<L: Label>(
     })
 }
 
+// The calls, to be made with the station's own parts.
 fn exchanges<L: Label>(heap: Global, calls: &[Call<L>]) -> Result<Vec<Exchange<L>>, AllocError>
     ensures { IfOk result (λ all. all.items ≡ map own_call calls.now) }
 {

@@ -5,13 +5,14 @@ use crate::operations::Spelled;
 use crate::table::{Side, Table};
 use compare::{Looks, Ran, Report, Unmade};
 use labels::Label;
-use machine::Labelled;
+use machine::{Call, Labelled, State};
 use policies::AnyPolicy;
-use sites::{Call, Reason, Reply, State, Written};
+use sites::Reply;
 use std::alloc::{AllocError, Global};
 use std::fmt;
 
-// One of the stations: the cells that it was made of, what its calls left, and of the commands those that the observer has.
+/// One of the stations: the cells that it was made of, what its
+/// calls left, and of the commands those that the observer has.
 #[derive(Drop)]
 pub struct Run<'a, L> {
     cells: &'a [Labelled<L>],
@@ -19,6 +20,7 @@ pub struct Run<'a, L> {
     commands: Vec<Labelled<L>>,
 }
 
+/// Two stations, the report on them, and the level of the observer.
 #[derive(Drop)]
 pub struct SideBySide<'a, L> {
     pub level: L,
@@ -27,7 +29,8 @@ pub struct SideBySide<'a, L> {
     pub second: Run<'a, L>,
 }
 
-// Shown as `memories: alike`, or as `memories: differ at cell 0, 40@0001 in the first and 41@0001 in the second`.
+/// Whether parts or calls are alike, shown as `memories: alike`, or as
+/// `memories: differ at cell 0, 40@0001 in the first and 41@0001 in the second`.
 #[derive(Clone, Copy)]
 pub struct Alike<T> {
     what: &'static str,
@@ -46,7 +49,8 @@ struct Difference<T> {
 #[derive(Clone, Copy)]
 struct Had<T>(Option<T>, &'static str);
 
-// An enter or a start that a station did not take, shown as `not taken: enter 1 7@0000, since the second station was running`.
+/// An enter or a start that a station did not take, shown as
+/// `not taken: enter 1 7@0000, since the second station was running`.
 #[derive(Clone, Copy)]
 pub struct Untaken<L> {
     call: Call<L>,
@@ -54,23 +58,24 @@ pub struct Untaken<L> {
     state: State,
 }
 
-// How the two lists of commands go together.
+/// How the two lists of commands go together.
 #[derive(Clone, Copy)]
 pub enum Beginning {
     Same,
-    // this list is a beginning of the other
+    /// this list is a beginning of the other
     Begins(Which),
-    // neither begins the other, from this command on
+    /// neither begins the other, from this command on
     Neither(usize),
 }
 
+/// One of the two stations.
 #[derive(Clone, Copy)]
 pub enum Which {
     First,
     Second,
 }
 
-// What the cells show.
+/// What the cells show.
 #[derive(Clone, Copy)]
 pub enum CellsShown<L> {
     Same,
@@ -79,31 +84,34 @@ pub enum CellsShown<L> {
         first: Reply<L>,
         second: Reply<L>,
     },
-    // They are not to be compared, since a station is not idle,
+    /// They are not compared, since a station is not idle.
     NotIdle(Which, State),
-    // or since not equally many enters and starts count.
+    /// They are not compared, since not equally many enters and starts count.
     Uneven {
         first: usize,
         second: usize,
     },
 }
 
-// What follows for the observer at a level.
+/// What follows for the observer at a level.
 #[derive(Clone, Copy)]
 pub enum Conclusion<L> {
-    // The stations are alike to him, and he is given nothing that differs.
+    /// The stations are alike to him, and he is given nothing that differs.
     Same(L),
-    // They are not alike to him, so nothing is promised.
+    /// They are not alike to him, so nothing is promised.
     NotAlike(L),
-    // They are alike to him, and something that he is given differs, which the proof of `compare` rules out.
+    /// They are alike to him, and something that he is given differs, which the proof of `compare`
+    /// rules out.
     Broken(L),
 }
 
-// Shown as `make of the first: refused with 1, stack`.
+/// That a station was not made, shown as `make of the first: refused with 1, stack`.
 #[derive(Clone, Copy)]
 pub struct Unmaking(pub Unmade);
 
 impl<'a, L: Label> Run<'a, L> {
+    /// The station of this run, as an observer at the level sees it. Refuses where there is no
+    /// memory.
     pub fn new(
         heap: Global,
         level: L,
@@ -118,6 +126,7 @@ impl<'a, L: Label> Run<'a, L> {
         })
     }
 
+    // The operation at a place of the program.
     fn operation(&self, place: usize) -> Option<Spelled<L>> {
         self.ran
             .site
@@ -127,8 +136,8 @@ impl<'a, L: Label> Run<'a, L> {
     }
 
     // A cell as the station was made of it.
-    fn cell(&self, cell: usize) -> Option<Written<L>> {
-        self.cells.get(cell).map(|number| Written(*number))
+    fn cell(&self, cell: usize) -> Option<Labelled<L>> {
+        self.cells.get(cell).copied()
     }
 
     // How many enters and starts count.
@@ -164,8 +173,9 @@ impl<'a, L: Label> Run<'a, L> {
         Ok(all)
     }
 
-    fn command(&self, place: usize) -> Option<Written<L>> {
-        self.commands.get(place).map(|number| Written(*number))
+    // One of the commands that the observer has.
+    fn command(&self, place: usize) -> Option<Labelled<L>> {
+        self.commands.get(place).copied()
     }
 }
 
@@ -175,7 +185,8 @@ fn visible<L: Label>(
     level: L,
     commands: &[Labelled<L>],
 ) -> Result<Vec<Labelled<L>>, AllocError>
-    ensures { IfOk result (λ seen. seen.items ≡ filter (λ v. L.Label.kind.below v.label level) commands.now) }
+    ensures { IfOk result (λ seen. seen.items
+        ≡ filter (λ v. L.Label.kind.below v.label level) commands.now) }
 {
     commands
         .iter()
@@ -185,6 +196,7 @@ fn visible<L: Label>(
 }
 
 impl<L: Label> SideBySide<'_, L> {
+    /// Whether the programs are alike, or the first place at which they differ.
     pub fn programs(&self) -> Alike<Spelled<L>> {
         Alike {
             what: "programs",
@@ -197,7 +209,8 @@ impl<L: Label> SideBySide<'_, L> {
         }
     }
 
-    pub fn memories(&self) -> Alike<Written<L>> {
+    /// Whether the memories are alike, or the first cell at which they differ.
+    pub fn memories(&self) -> Alike<Labelled<L>> {
         Alike {
             what: "memories",
             difference: self.report.memories.map(|place| Difference {
@@ -209,7 +222,8 @@ impl<L: Label> SideBySide<'_, L> {
         }
     }
 
-    // The calls are alike if, of the enters and starts that count, one list is a beginning of the other.
+    /// The calls are alike if, of the enters and starts that count, one list is a beginning of the
+    /// other.
     pub fn calls(&self) -> Alike<Call<L>> {
         Alike {
             what: "calls",
@@ -222,7 +236,8 @@ impl<L: Label> SideBySide<'_, L> {
         }
     }
 
-    // The enters and starts that a station did not take, those of the first before those of the second.
+    /// The enters and starts that a station did not take, those of the first before those of the
+    /// second.
     pub fn untaken(&self, heap: Global) -> Result<Vec<Untaken<L>>, AllocError> {
         let mut all = self.first.untaken(heap, Which::First)?;
         for untaken in self.second.untaken(heap, Which::Second)? {
@@ -231,7 +246,7 @@ impl<L: Label> SideBySide<'_, L> {
         Ok(all)
     }
 
-    // The commands that the observer has of both, a row for each.
+    /// The commands that the observer has of both, a row for each.
     pub fn table(&self, heap: Global) -> Result<Table, AllocError> {
         let mut table = Table::new(heap, &[Side::Right, Side::Left, Side::Left])?;
         table.push(vec![in heap;
@@ -250,6 +265,7 @@ impl<L: Label> SideBySide<'_, L> {
         Ok(table)
     }
 
+    /// How the commands that the observer has of both go together.
     pub fn commands(&self) -> Beginning {
         let first = self.first.commands.len();
         let second = self.second.commands.len();
@@ -261,6 +277,7 @@ impl<L: Label> SideBySide<'_, L> {
         }
     }
 
+    /// What the cells show him, and where they are not compared, why.
     pub fn looks(&self) -> CellsShown<L> {
         match self.report.looks {
             Looks::Same => CellsShown::Same,
@@ -285,6 +302,7 @@ impl<L: Label> SideBySide<'_, L> {
         }
     }
 
+    /// What follows for him from the report.
     pub fn conclusion(&self) -> Conclusion<L> {
         if !self.report.says_alike() {
             Conclusion::NotAlike(self.level)
@@ -385,7 +403,8 @@ impl<L: Label> fmt::Display for CellsShown<L> {
             ),
             CellsShown::Uneven { first, second } => write!(
                 f,
-                "cells: not compared, since {first} enters and starts count in the first and {second} in the second"
+                "cells: not compared, since {first} enters and starts count in the first \
+                and {second} in the second"
             ),
         }
     }
@@ -416,6 +435,6 @@ impl fmt::Display for Unmaking {
             Unmade::First(why) => (Which::First, why),
             Unmade::Second(why) => (Which::Second, why),
         };
-        write!(f, "make of the {which}: refused with {}", Reason(why))
+        write!(f, "make of the {which}: refused with {why}")
     }
 }

@@ -10,10 +10,10 @@ use labels::Label;
 use policies::{AnyPolicy, PolicyName};
 use readings::Readings;
 use sheets::Sheet;
-use sites::{Answered, Making, Site, Written};
+use sites::{Answered, Making, Site};
 use std::io;
 
-// What is shown of a sheet's station.
+/// What is shown of a sheet's station.
 #[derive(Clone, Copy)]
 pub enum View {
     Run,
@@ -21,6 +21,7 @@ pub enum View {
     Trace,
 }
 
+// A sheet, the policy, and what is shown of its station.
 #[derive(Clone, Copy)]
 struct OneStation<'a> {
     file: SheetFile<'a>,
@@ -28,7 +29,8 @@ struct OneStation<'a> {
     view: View,
 }
 
-// Shows what is asked of the station of a sheet.
+/// Shows what is asked of the station of a sheet. Refuses a sheet
+/// with something wrong, and a station that cannot be made.
 pub fn show(asked: OneSheet<'_>, view: View, console: &mut Console<'_>) -> Result<(), Failure> {
     let bytes = sheet_file::read(asked.file, console)?;
     let file = SheetFile::new(asked.file, bytes.as_slice(), console)?;
@@ -105,16 +107,17 @@ fn run<L: Label>(
     }
 }
 
-// Prints the commands, the oldest first.
+/// Prints the commands, the oldest first.
 pub fn print_commands<P, L: Label>(site: &Site<P, L>, console: &mut Console<'_>) -> io::Result<()> {
     let commands = site.commands();
     console.line(format_args!("commands {}", commands.len()))?;
     for (place, command) in commands.iter().enumerate() {
-        console.line(format_args!("{place} {}", Written(*command)))?;
+        console.line(format_args!("{place} {command}"))?;
     }
     Ok(())
 }
 
+/// Prints the state in which the station is.
 pub fn print_state<P, L: Label>(site: &Site<P, L>, console: &mut Console<'_>) -> io::Result<()> {
     console.line(format_args!("state {}", site.state()))
 }

@@ -2,27 +2,29 @@
 use std::alloc::{AllocError, Global};
 use std::fmt;
 
-// The side of a column on which its cells stand.
+/// The side of a column on which its cells stand.
 #[derive(Clone, Copy)]
 pub enum Side {
     Left,
     Right,
 }
 
+/// A column: how wide it is, and on which side its cells stand.
 #[derive(Clone, Copy)]
 pub struct Column {
     pub side: Side,
     pub width: usize,
 }
 
-// Rows of cells, in columns that are as wide as their widest cell.
+/// Rows of cells, in columns that are as wide as their widest cell.
 #[derive(Drop)]
 pub struct Table {
     columns: Vec<Column>,
     rows: Vec<Vec<String>>,
 }
 
-// A line of cells, two spaces apart, and nothing behind the last. A cell that is wider than its column pushes on the ones behind it.
+/// A line of cells, two spaces apart, and nothing behind the last. A
+/// cell that is wider than its column pushes on the ones behind it.
 #[derive(Clone, Copy)]
 pub struct Row<'a> {
     pub columns: &'a [Column],
@@ -32,6 +34,7 @@ pub struct Row<'a> {
 const GAP: usize = 2;
 
 impl Table {
+    /// A table without rows, with a column for each side.
     pub fn new(heap: Global, sides: &[Side]) -> Result<Table, AllocError> {
         let columns = sides
             .iter()
@@ -46,6 +49,7 @@ impl Table {
         })
     }
 
+    /// Adds a row, and widens the columns that it needs wider.
     pub fn push(&mut self, cells: Vec<String>) -> Result<(), AllocError> {
         for (column, cell) in self.columns.iter_mut().zip(cells.iter()) {
             column.width = column.width.max(cell.len());

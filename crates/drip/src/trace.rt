@@ -4,12 +4,11 @@ use crate::stations::{print_commands, print_state};
 use crate::table::{Column, Row, Side};
 use crate::{Console, Failure};
 use labels::Label;
-use machine::{Entry, Operation, Stop};
+use machine::{Call, End, Entry, Operation, State, Stop};
 use policies::{AnyPolicy, PolicyName};
-use sites::{Answered, Call, Rehearsal, Reply, Site, State, Written};
+use sites::{Answered, Rehearsal, Reply, Site};
 use std::alloc::{AllocError, Global};
 use std::fmt;
-use steps::Outcome;
 
 // The lines of steps: where they are made, and how wide their columns are.
 #[derive(Drop)]
@@ -34,7 +33,8 @@ enum Target {
     Command(usize),
 }
 
-// The top of a stack, shown as `5@0001`, as `frame` with the place that it returns to, or as `-` if there is none.
+// The top of a stack, shown as `5@0001`, as `frame` with the place that it returns to, or as `-` if
+// there is none.
 #[derive(Clone, Copy)]
 struct Top<L>(Option<Entry<L>>);
 
@@ -42,8 +42,8 @@ struct Top<L>(Option<Entry<L>>);
 #[derive(Clone, Copy)]
 struct Meaning(Stop);
 
-// Makes the calls on a station and prints each with its reply, before that of a go its steps, and at the end what a run prints.
-// The steps are rehearsed, under a policy of the same name.
+/// Makes the calls on a station and prints each with its reply, before that of a go its steps, and
+/// at the end what a run prints. The steps are rehearsed, under a policy of the same name.
 pub fn print_trace<L: Label>(
     site: Site<AnyPolicy<L>, L>,
     policy: PolicyName,
@@ -75,7 +75,8 @@ pub fn print_trace<L: Label>(
 }
 
 impl Steps {
-    // The columns have room for every operation of the program and every number with its label, so they are known before the steps.
+    // The columns have room for every operation of the program and every
+    // number with its label, so they are known before the steps.
     fn of<L: Label>(heap: Global, program: &[Operation<L>]) -> Result<Steps, AllocError> {
         let mut operation = 0;
         for it in program {
@@ -95,7 +96,8 @@ impl Steps {
         Ok(Steps { heap, columns })
     }
 
-    // Prints the steps that a go of so much fuel takes, and the operation that it is stopped at, if it is.
+    // Prints the steps that a go of so much fuel takes, and the operation that it is stopped at, if
+    // it is.
     fn print_go<L: Label>(
         &self,
         rehearsal: Rehearsal<L>,
@@ -109,10 +111,10 @@ impl Steps {
             let Some(ahead) = Ahead::of(&rehearsal) else {
                 break;
             };
-            match rehearsal.step(&mut policy, fuel - done) {
-                Ok(Outcome::Done(_)) => self.print_step(done, ahead, &rehearsal, console)?,
-                Ok(Outcome::Finished | Outcome::Later) => break,
-                Err(stop) => {
+            match rehearsal.advance(&mut policy, fuel - done) {
+                Ok(_) => self.print_step(done, ahead, &rehearsal, console)?,
+                Err(End::Finished | End::OutOfFuel) => break,
+                Err(End::Stopped(stop)) => {
                     self.print_stop(stop, ahead, &rehearsal, console)?;
                     break;
                 }
@@ -152,6 +154,7 @@ impl Steps {
         self.print_row(String::new(self.heap), ahead, rehearsal, stopped, console)
     }
 
+    // Prints the row of a step: its number, how things stand, and a remark.
     fn print_row<L: Label>(
         &self,
         number: String,
@@ -183,6 +186,7 @@ fn top_of<L: Label>(rehearsal: &Rehearsal<L>) -> Option<Entry<L>> {
     rehearsal.parts().stack.get(below).copied()
 }
 
+// A column with room for so much.
 fn column(side: Side, width: usize) -> Column {
     Column { side, width }
 }
@@ -195,7 +199,7 @@ impl<L: Label> Ahead<L> {
         let operation = *rehearsal.parts().program.get(place)?;
         let target = match operation {
             Operation::Store => Target::stored(top_of(rehearsal)),
-            Operation::Output => Target::Command(registers.commands),
+            Operation::Output => Target::Command(registers.window.count()),
             _ => Target::Nothing,
         };
         Some(Ahead {
@@ -230,7 +234,7 @@ impl Target {
             Target::Command(place) => ("command", place, parts.log.get(place)),
         };
         match number {
-            Some(number) => format!(in heap; "{name} {place} = {}", Written(*number)),
+            Some(number) => format!(in heap; "{name} {place} = {number}"),
             None => Ok(String::new(heap)),
         }
     }
@@ -240,7 +244,7 @@ impl<L: Label> fmt::Display for Top<L> {
     fn fmt<W: fmt::Write>(&self, f: &mut fmt::Formatter<W>) -> fmt::Result {
         match self.0 {
             None => write!(f, "-"),
-            Some(Entry::Number(number)) => write!(f, "{}", Written(number)),
+            Some(Entry::Number(number)) => write!(f, "{number}"),
             Some(Entry::Frame(frame)) => write!(f, "frame {}", frame.place),
         }
     }

@@ -1,3 +1,4 @@
+-- Lemmas that the proofs of several functions cite.
 pub mod Digits
 pub mod Labelled
 pub mod InOrder

@@ -1,4 +1,4 @@
--- Kinds of label, and the words that name them. Assumes nothing.
+-- Kinds of label, and the words that name them.
 use Rattle.std.specs.Prelude.{◌≡◌, ◌≢◌, ℕ, List, [], ◌∷◌, ◌++◌, codes, Result, Ok, Err}
 use Rattle.std.specs.List.{Contains}
 use Rattle.std.specs.Str.Lines.{lines}
@@ -8,6 +8,7 @@ use Rattle.sheets.specs.declared.kind.Kind.TheVariants.{One, Pair}
 use Rattle.sheets.specs.declared.kind.KindName.{KindName}
 use Rattle.sheets.specs.declared.kind.KindName.TheVariants.{Levels, Growers}
 
+-- the word that names a simple kind
 abbrev pub kind_name : KindName → List ℕ
 kind_name Levels = codes "levels"
 kind_name Growers = codes "growers"
@@ -29,4 +30,6 @@ ReadsKind before (Err e) after = Unit {0}
 
 -- a line of the text gives the kind
 abbrev pub HasKind : List ℕ → Kind → Type 0
-HasKind text kind = (line : List ℕ) × Contains (lines text) line × (words (uncommented line) ≡ codes "labels" ∷ kind_words kind)
+HasKind text kind =
+    (line : List ℕ) × Contains (lines text) line
+    × (words (uncommented line) ≡ codes "labels" ∷ kind_words kind)

@@ -1,3 +1,4 @@
+-- What the contracts of this crate are stated by.
 pub mod Numbers
 pub mod Words
 pub mod Kinds

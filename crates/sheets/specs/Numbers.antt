@@ -1,14 +1,16 @@
--- Numbers and labels as a sheet writes them. Assumes nothing.
-use Rattle.std.specs.Prelude.{◌≡◌, ◌≢◌, ℕ, ◌≤◌, ℤ, ◌≤ℤ◌, Bool, true, false, List, Result, Ok, Err, FitsSigned}
+-- Numbers and labels as a sheet writes them.
+use Rattle.std.specs.Prelude.{◌≡◌, ◌≢◌, ℕ, ◌≤◌, ℤ, ◌≤ℤ◌, Bool, true, false, List, Result, Ok, Err}
+use Rattle.std.specs.Prelude.{FitsSigned}
 use Rattle.std.specs.Fmt.{decimal, signed_decimal}
 use Rattle.std.specs.Int.{w32}
 use Rattle.machine.specs.declared.parts.Labelled.{Labelled}
-use Rattle.sites.specs.Texts.{number_text}
+use Rattle.machine.specs.Texts.{number_text}
 
+-- from `least` to `most`
 abbrev pub Between : ℤ → ℤ → ℤ → Type 0
 Between least most z = (least ≤ℤ z) × (z ≤ℤ most)
 
--- the word is read as n, which is up to `most`: if it is the text of a number up to `most`, then of n
+-- the word is read as n, which is up to `most`: if it is such a number's text, then n's
 abbrev pub CountRead : ℕ → List ℕ → ℕ → Type 0
 CountRead most word n = (n ≤ most) × ((m : ℕ) → m ≤ most → word ≡ decimal m → n ≡ m)
 
@@ -31,12 +33,14 @@ module _ {L : Type 0} (text : L → List ℕ) where
 
   -- what reading a labelled number gives if the word is the text of one
   abbrev pub GivesNumber : {E : Type 0} → List ℕ → Result (Labelled L) E → Type 0
-  GivesNumber word r = (u : Labelled L) → FitsSigned w32 u.value → word ≡ number_text text u → r ≡ Ok u
+  GivesNumber word r =
+      (u : Labelled L) → FitsSigned w32 u.value → word ≡ number_text text u → r ≡ Ok u
 
   -- the label of that text, or an error if it is no label's
   abbrev pub GivesLabel : {E : Type 0} → List ℕ → Result L E → Type 0
   GivesLabel word (Ok a) = word ≡ text a
   GivesLabel word (Err e) = (a : L) → word ≢ text a
 
+  -- the word is the text of that label
   abbrev pub LabelRead : List ℕ → L → Type 0
   LabelRead word a = word ≡ text a

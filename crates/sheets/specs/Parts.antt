@@ -1,8 +1,8 @@
--- The parts of a station that a sheet gives. Assumes nothing.
+-- The parts of a station that a sheet gives.
 use Rattle.std.specs.Prelude.{◌≡◌, pos, List, replicate}
 use Rattle.machine.specs.declared.parts.Labelled.{Labelled}
 use Rattle.machine.specs.declared.parts.Entry.TheVariants.{Number}
-use Rattle.sites.specs.declared.calls.Call.{Call}
+use Rattle.machine.specs.declared.calls.Call.{Call}
 use Rattle.sites.specs.declared.lending.Parts.{Parts}
 use Rattle.sheets.specs.declared.sheet.Sheet.{Sheet}
 
@@ -10,8 +10,10 @@ use Rattle.sheets.specs.declared.sheet.Sheet.{Sheet}
 abbrev pub zero_at : {L : Type 0} → L → Labelled L
 zero_at label = record { value = pos 0; label = label }
 
--- the program and the memory are the sheet's, and so are the calls; stack and log are as long as the sheet says and hold 0 with that label
-pub record GivesParts {L : Type 0} (bottom : L) (sheet : Sheet L) (parts : Parts L) (calls : List (Call L)) : Type 0 where
+-- The program, the memory and the calls are the sheet's. Stack and log are as long as the sheet says
+-- and hold 0 with that label.
+pub record GivesParts {L : Type 0} (bottom : L) (sheet : Sheet L) (parts : Parts L)
+    (calls : List (Call L)) : Type 0 where
   pub program : parts.program.items ≡ sheet.program.items
   pub memory : parts.memory.items ≡ sheet.memory.items
   pub stack : parts.stack.items ≡ replicate sheet.stack (Number (zero_at bottom))

@@ -6,61 +6,64 @@ use std::alloc::{AllocError, AllocFailed};
 use std::error::Error;
 use std::fmt;
 
-// The first thing that is wrong, and in which line; line 0 where it stands in no line.
+/// The first thing that is wrong with a sheet, and in which line; line 0 where it stands in no
+/// line.
 #[derive(Clone, Copy, Debug, PartialEq, Eq)]
 pub struct Fault<'a> {
     pub line: u64,
     pub problem: Problem<'a>,
 }
 
+/// What can be wrong, with the word that is to blame. Displayed it says what is wrong and what was
+/// expected.
 #[derive(Clone, Copy, Debug, PartialEq, Eq)]
 pub enum Problem<'a> {
-    // The line is not UTF-8.
+    /// The line is not UTF-8.
     NotText,
-    // The first word begins no line before the program, no operation or no call.
+    /// The first word begins no line before the program, no operation or no call.
     NoSetting(&'a str),
     NoOperation(&'a str),
     NoCall(&'a str),
-    // The line ends where a word is due.
+    /// The line ends where a word is due.
     Missing(Due),
-    // The word stands where the line is to end.
+    /// The word stands where the line is to end.
     Extra(&'a str),
     NoKind(&'a str),
     NoNumber(&'a str, Due),
     OutOfRange(&'a str, Due),
-    // The word has no `@`.
+    /// The word has no `@`.
     NoLabel(&'a str),
-    // The word is no label of the sheet's kind.
+    /// The word is no label of the sheet's kind.
     WrongLabel(&'a str, Kind),
-    // The word in front of a colon is no name.
+    /// The word in front of a colon is no name.
     NoName(&'a str),
     UnknownName(&'a str),
     NameTwice(&'a str),
-    // No operation follows the name.
+    /// No operation follows the name.
     NamesNothing(&'a str),
     CellOutside { cell: usize, memory: usize },
     CellTwice(usize),
     HeaderTwice(Header),
     NoHeader(Header),
-    // The program has more operations than a number can tell apart.
+    /// The program has more operations than a number can tell apart.
     TooLong,
     Memory,
 }
 
-// What is due in a line.
+/// What is due in a line.
 #[derive(Clone, Copy, Debug, PartialEq, Eq)]
 pub enum Due {
     Kind,
-    // a number from the first to the second
+    /// a number from the first to the second
     Number(i64, i64),
-    // a number or the name of a place
+    /// a number or the name of a place
     Value,
-    // a number or the name of a place, with a label
+    /// a number or the name of a place, with a label
     Labelled,
     Label(Kind),
 }
 
-// A line that stands once in a sheet.
+/// A line that stands once in a sheet.
 #[derive(Clone, Copy, Debug, PartialEq, Eq)]
 pub enum Header {
     Labels,
@@ -72,7 +75,7 @@ pub enum Header {
 }
 
 impl<'a> Problem<'a> {
-    // The fault that is this problem in that line.
+    /// The fault that is this problem in that line.
     pub fn at(self, line: u64) -> Fault<'a>
         ensures line { result.line ≡ line }
         ensures problem { result.problem ≡ self.entry }
@@ -83,7 +86,7 @@ impl<'a> Problem<'a> {
         }
     }
 
-    // The fault that stands in no line.
+    /// The fault that is this problem, standing in no line.
     pub fn nowhere(self) -> Fault<'a>
         ensures line { result.line ≡ 0 }
         ensures problem { result.problem ≡ self.entry }
@@ -111,7 +114,8 @@ impl fmt::Display for Problem<'_> {
             ),
             Problem::NoOperation(word) => write!(
                 f,
-                "{} is no operation; expected push, pop, noop, add, sub, less, load, store, jump, bnz, call, return, output, halt, a name with a colon, or calls",
+                "{} is no operation; expected push, pop, noop, add, sub, less, load, store, jump, \
+                bnz, call, return, output, halt, a name with a colon, or calls",
                 Quoted(word)
             ),
             Problem::NoCall(word) => write!(

@@ -5,20 +5,22 @@ use std::error::Error;
 use std::fmt;
 use std::str::FromStr;
 
-// A kind of label that a sheet can have.
+/// A kind of label that a sheet can have: a simple one, or the pairs of two. Displayed it is how
+/// its labels are written.
 #[derive(Clone, Copy, Debug, PartialEq, Eq)]
 pub enum Kind {
     One(KindName),
     Pair(KindName, KindName),
 }
 
+/// A simple kind of label, which a word names.
 #[derive(Clone, Copy, Debug, PartialEq, Eq)]
 pub enum KindName {
     Levels,
     Growers,
 }
 
-// The word names no kind of label.
+/// The word names no kind of label.
 #[derive(Clone, Copy, Debug, PartialEq, Eq)]
 pub struct NotAKind;
 

@@ -1,4 +1,5 @@
-// Station sheets: plain text that gives the parts of a station and the calls that are made on it, read into these.
+// Station sheets: plain text that gives the parts of a station and the calls that are made on it,
+// read into these.
 #![tactic(auto)]
 
 mod fault;

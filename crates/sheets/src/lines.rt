@@ -2,13 +2,13 @@
 ghost use Rattle.std.specs.Prelude.{◌≡◌, [], ◌∷◌, ◌++◌, IfOk, map};
 ghost use Rattle.text.specs.Words.{words};
 ghost use Rattle.sheets.specs.Sheets.{BeginsWith, GivesLine, line_words, sheet_lines};
-ghost use Rattle.sheets.specs.Words.{Takes};
+ghost use Rattle.sheets.specs.Words.{TakesWord};
 
 use crate::{Due, Problem};
 use std::alloc::{AllocError, Global};
 use text::{before_comment, next_word};
 
-// A line's number, its first word and the words behind that.
+/// A line that has words: its number, its first word and the words behind that.
 #[derive(Clone, Copy)]
 pub struct Line<'a> {
     pub number: u64,
@@ -16,12 +16,12 @@ pub struct Line<'a> {
     pub rest: Words<'a>,
 }
 
-// Words that are still to be read.
+/// The words of a line that are still to be read.
 #[derive(Clone, Copy)]
 pub struct Words<'a>(&'a str);
 
 impl<'a> Line<'a> {
-    // The line, if it has words.
+    /// The line with this number and text, if it has words.
     pub fn new(number: u64, text: &'a str) -> Option<Line<'a>>
         ensures { GivesLine text.now result }
     {
@@ -35,22 +35,23 @@ impl<'a> Line<'a> {
 }
 
 impl<'a> Words<'a> {
+    /// Takes the next word, if there is one.
     pub fn next(&mut self) -> Option<&'a str>
-        ensures { Takes (words self.old.0.now) result (words self.new.0.now) }
+        ensures { TakesWord (words self.old.0.now) result (words self.new.0.now) }
     {
         let (word, rest) = next_word(self.0)?;
         self.0 = rest;
         Some(word)
     }
 
-    // The next word, which is to be what is due.
+    /// Takes the next word, which is to be what is due. Refuses a line that ends here.
     pub fn due(&mut self, due: Due) -> Result<&'a str, Problem<'a>>
         ensures { IfOk result (λ word. words self.old.0.now ≡ word.now ∷ words self.new.0.now) }
     {
         self.next().ok_or(Problem::Missing(due))
     }
 
-    // Nothing more is due.
+    /// Nothing more is due. Refuses a line with another word.
     pub fn end(self) -> Result<(), Problem<'a>>
         ensures { IfOk result (λ _. words self.entry.0.now ≡ []) }
     {
@@ -61,12 +62,13 @@ impl<'a> Words<'a> {
     }
 }
 
-// The lines of a text that have words.
+/// The lines of a text that have words.
 pub fn lines_of(heap: Global, text: &str) -> Result<Vec<Line<'_>>, AllocError>
     ensures { IfOk result (λ all. map line_words all.items ≡ sheet_lines text.now) }
 {
     let mut lines = Vec::new(heap);
-    // Counted by hand: the proof of a loop over a zip with the numbers would have to take the pairs apart.
+    // Counted by hand: the proof of a loop over a zip with the numbers would have to take the pairs
+    // apart.
     let mut number = 0u64;
     for line in text.lines() {
         number = number.saturating_add(1);
@@ -77,7 +79,7 @@ pub fn lines_of(heap: Global, text: &str) -> Result<Vec<Line<'_>>, AllocError>
     Ok(lines)
 }
 
-// The lines before the first that begins with the word, and the lines from that one on.
+/// The lines before the first that begins with the word, and the lines from that one on.
 pub fn split_at_word<'l, 'a>(lines: &'l [Line<'a>], word: &str) -> (&'l [Line<'a>], &'l [Line<'a>])
     ensures all { lines.now ≡ result.0.now ++ result.1.now }
     ensures begins { BeginsWith word.now result.1.now }

@@ -4,14 +4,14 @@ use crate::{Fault, Problem};
 use std::alloc::Global;
 use std::collections::BTreeMap;
 
-// A named place, and the number of the line that names it.
+/// A named place, and the number of the line that names it.
 #[derive(Clone, Copy, PartialEq, Eq)]
 pub struct Named {
     pub place: i32,
     pub line: u64,
 }
 
-// The places that a program's names name, and how many operations it has.
+/// The places that a program's names name, and how many operations it has.
 #[derive(Drop)]
 pub struct Names<'a> {
     places: BTreeMap<&'a str, Named>,
@@ -19,8 +19,9 @@ pub struct Names<'a> {
 }
 
 impl<'a> Names<'a> {
-    // The names that a program gives, whose first line is `program`. Of a name that is given twice the first place counts; `check`
-    // refuses the second.
+    /// The names that a program gives, whose first line is `program`. Of a
+    /// name that is given twice the first place counts; `check` refuses the
+    /// second. Refuses more operations than a number can tell apart.
     pub fn of(heap: Global, program: &[Line<'a>]) -> Result<Names<'a>, Fault<'a>> {
         let mut places = BTreeMap::new(heap);
         let mut operations = 0i32;
@@ -45,6 +46,7 @@ impl<'a> Names<'a> {
         Ok(Names { places, operations })
     }
 
+    /// The place that a name names. Refuses a name that the program does not give.
     pub fn place(&self, name: &'a str) -> Result<i32, Problem<'a>> {
         match self.places.get(&name) {
             None => Err(Problem::UnknownName(name)),
@@ -52,7 +54,8 @@ impl<'a> Names<'a> {
         }
     }
 
-    // Whether the name may stand in the line of that number.
+    /// Refuses what is no name, a name that another line gave before, and one behind which no
+    /// operation follows.
     pub fn check(&self, name: &'a str, line: u64) -> Result<(), Problem<'a>> {
         if !is_name(name) {
             return Err(Problem::NoName(name));
@@ -65,7 +68,7 @@ impl<'a> Names<'a> {
     }
 }
 
-// Whether the word is a lower-case letter and behind it letters, digits and `_`.
+/// Whether the word is a lower-case letter and behind it letters, digits and `_`.
 pub fn is_name(word: &str) -> bool {
     match word.as_bytes() {
         [] => false,

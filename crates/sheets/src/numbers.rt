@@ -7,7 +7,7 @@ ghost use Rattle.sheets.specs.Numbers.{Between, GivesValue};
 use crate::{Due, Problem};
 use std::num::IntErrorKind;
 
-// Why a word is not a number that is due.
+/// Why a word is not a number that is due.
 #[derive(Clone, Copy, PartialEq, Eq)]
 pub enum NumberFault {
     NotDigits,
@@ -15,6 +15,7 @@ pub enum NumberFault {
 }
 
 impl NumberFault {
+    /// The problem that this fault of a word is, where that number is due.
     pub fn problem<'a>(self, word: &'a str, due: Due) -> Problem<'a> {
         match self {
             NumberFault::NotDigits => Problem::NoNumber(word, due),
@@ -23,10 +24,12 @@ impl NumberFault {
     }
 }
 
-// The number that digits give, with `-` before them if it is negative, if it is from `least` to `most`.
+// The number that digits give, with `-` before them if it is negative. Refuses one that is not from
+// `least` to `most`.
 fn number_between(word: &str, least: i64, most: i64) -> Result<i64, NumberFault>
     ensures within { IfOk result (Between least most) }
-    ensures reads { (z : ℤ) → FitsSigned w64 z → Between least most z → word.now ≡ signed_decimal z → result ≡ Ok z }
+    ensures reads { (z : ℤ) → FitsSigned w64 z → Between least most z
+        → word.now ≡ signed_decimal z → result ≡ Ok z }
 {
     let number = integer(word)?;
     if number < least || most < number {
@@ -35,6 +38,7 @@ fn number_between(word: &str, least: i64, most: i64) -> Result<i64, NumberFault>
     Ok(number)
 }
 
+// The number of 64 bits that digits give, with `-` before them if it is negative, and never a `+`.
 fn integer(word: &str) -> Result<i64, NumberFault>
     ensures { (z : ℤ) → FitsSigned w64 z → word.now ≡ signed_decimal z → result ≡ Ok z }
 {
@@ -47,6 +51,7 @@ fn integer(word: &str) -> Result<i64, NumberFault>
     })
 }
 
+/// The number that digits give, which is to be up to `most`. Refuses every other word.
 pub fn unsigned(word: &str, most: u32) -> Result<u32, Problem<'_>>
     ensures within { IfOk result (λ n. n ≤ most) }
     ensures reads { (n : ℕ) → n ≤ most → word.now ≡ decimal n → result ≡ Ok n }
@@ -58,7 +63,8 @@ pub fn unsigned(word: &str, most: u32) -> Result<u32, Problem<'_>>
     }
 }
 
-// A number of 32 bits, with a sign.
+/// The number of 32 bits that digits give, with `-` before them if it is negative. Refuses every
+/// other word.
 pub fn signed(word: &str) -> Result<i32, NumberFault>
     ensures { GivesValue word.now result }
 {

@@ -1,14 +1,16 @@
 // Reading the lines of a sheet, where they may name places of its program.
-ghost use Rattle.std.specs.Prelude.{◌≡◌, ◌<◌, ◌≤◌, ◌-ℤ◌, IfOk, None, Some, codes, length, map, unwrap_or};
+ghost use Rattle.std.specs.Prelude.{◌≡◌, ◌<◌, ◌≤◌, ◌-ℤ◌, IfOk, None, Some, codes, length, map};
+ghost use Rattle.std.specs.Prelude.{unwrap_or};
 ghost use Rattle.std.specs.List.{slice_index_or, slice_set};
 ghost use Rattle.std.specs.Option.{IfSome};
 ghost use Rattle.text.specs.Words.{words};
-ghost use Rattle.sheets.specs.Lines.{Counts, SaysCall, SaysOperation, SaysOperands};
+ghost use Rattle.sheets.specs.Lines.{SaysCount, SaysCall, SaysOperation, SaysOperands};
 ghost use Rattle.sheets.specs.Numbers.{GivesLabel, GivesNumber, GivesValue, LabelRead, NumberRead};
 ghost use Rattle.sheets.specs.Parts.{zero_at};
 ghost use Rattle.sheets.specs.Settings.{AddsSetting, SaysSettings, Settles, SomeLine};
-ghost use Rattle.sheets.specs.Sheets.{Adds, ReadsCalls, ReadsProgram, SaysCalls, SaysProgram, line_words};
-ghost use Rattle.sheets.specs.Words.{Reads};
+ghost use Rattle.sheets.specs.Sheets.{Adds, ReadsCalls, ReadsProgram, SaysCalls, SaysProgram};
+ghost use Rattle.sheets.specs.Sheets.{line_words};
+ghost use Rattle.sheets.specs.Words.{ReadsWith};
 
 use crate::lines::{Line, Words};
 use crate::names::{Names, is_name};
@@ -16,12 +18,12 @@ use crate::numbers::{NumberFault, signed, unsigned};
 use crate::settings::{Setting, read_index, read_wide};
 use crate::{Due, Fault, Header, Kind, Problem};
 use labels::Label;
-use machine::{Labelled, Operation};
-use sites::Call;
+use machine::{Call, Labelled, Operation};
 use std::alloc::Global;
 use text::label_named;
 
-// What the lines are read by: the kind of label, for whoever wrote another, and the names of places.
+/// What the lines are read by: the kind of label, which is told to whoever wrote another, and the
+/// names of places.
 #[derive(Drop)]
 pub struct Reader<'a> {
     pub heap: Global,
@@ -39,7 +41,7 @@ struct Given<L> {
     cells: Vec<Option<Labelled<L>>>,
 }
 
-// What the lines before the program come to.
+/// What the lines before the program come to: the memory, and how long the stack and the log are.
 #[derive(Drop)]
 pub struct Settings<L> {
     pub memory: Vec<Labelled<L>>,
@@ -51,8 +53,11 @@ pub struct Settings<L> {
 const LENGTH: usize = 64;
 
 impl<'a> Reader<'a> {
+    /// What the lines before the program come to together. Refuses a wrong line,
+    /// and lines that leave out what has to stand there or say it twice.
     pub fn settings<L: Label>(&self, lines: &[Line<'a>]) -> Result<Settings<L>, Fault<'a>>
-        ensures { IfOk result (λ s. SaysSettings L.Label.text L.Label.kind.bottom (map line_words lines.now) s.memory.items s.stack s.log) }
+        ensures { IfOk result (λ s. SaysSettings L.Label.text L.Label.kind.bottom
+            (map line_words lines.now) s.memory.items s.stack s.log) }
     {
         let memory = memory_size(lines);
         let mut cells = Vec::new(self.heap);
@@ -72,7 +77,8 @@ impl<'a> Reader<'a> {
         self.settled(memory, given).map_err(Problem::nowhere)
     }
 
-    // Adds what a line says. The size of the memory is known before its line comes, so that each cell can be refused in its line.
+    // Adds what a line says. The size of the memory is known before its
+    // line comes, so that each cell can be refused in its line.
     fn setting<L: Label>(
         &self,
         line: &Line<'a>,
@@ -81,7 +87,8 @@ impl<'a> Reader<'a> {
     ) -> Result<(), Problem<'a>>
         requires sized { length given.old.cells.items ≡ unwrap_or memory 0 }
         requires few { length given.old.cells.items ≤ 65535 }
-        ensures { IfOk result (λ _. AddsSetting L.Label.text (line_words line.now) given.old given.new) }
+        ensures { IfOk result
+            (λ _. AddsSetting L.Label.text (line_words line.now) given.old given.new) }
     {
         match Setting::read(line)? {
             Setting::Labels(kind) => give(&mut given.labels, kind, Header::Labels),
@@ -98,6 +105,8 @@ impl<'a> Reader<'a> {
         }
     }
 
+    // What the lines gave, and what stands for the rest. Refuses lines that gave no kind of label
+    // or no memory.
     fn settled<L: Label>(
         &self,
         memory: Option<usize>,
@@ -123,7 +132,8 @@ impl<'a> Reader<'a> {
         })
     }
 
-    // The operations of a program, whose first line is `program`.
+    /// The operations of a program, whose first line is `program`. Refuses no lines at all, and a
+    /// wrong line.
     pub fn program<L: Label>(&self, lines: &[Line<'a>]) -> Result<Vec<Operation<L>>, Fault<'a>>
         ensures { IfOk result (λ all. ReadsProgram L.Label.text lines.now all.items) }
     {
@@ -135,8 +145,10 @@ impl<'a> Reader<'a> {
         self.operations(lines)
     }
 
+    // The operations that the lines behind `program` say.
     fn operations<L: Label>(&self, lines: &[Line<'a>]) -> Result<Vec<Operation<L>>, Fault<'a>>
-        ensures { IfOk result (λ all. SaysProgram L.Label.text (map line_words lines.now) all.items) }
+        ensures { IfOk result
+            (λ all. SaysProgram L.Label.text (map line_words lines.now) all.items) }
     {
         let mut program = Vec::new(self.heap);
         for line in lines {
@@ -147,12 +159,14 @@ impl<'a> Reader<'a> {
         Ok(program)
     }
 
+    // Adds the operation that a line says, if it does not name a place.
     fn program_line<L: Label>(
         &self,
         line: &Line<'a>,
         program: &mut Vec<Operation<L>>,
     ) -> Result<(), Problem<'a>>
-        ensures { IfOk result (λ _. Adds L.Label.text (line_words line.now) program.old.items program.new.items) }
+        ensures { IfOk result
+            (λ _. Adds L.Label.text (line_words line.now) program.old.items program.new.items) }
     {
         match line.first.strip_suffix(':') {
             Some(name) => {
@@ -167,7 +181,7 @@ impl<'a> Reader<'a> {
         }
     }
 
-    // The operation at that place.
+    // The operation that a line says, which is to stand at that place.
     fn operation<L: Label>(&self, line: &Line<'a>, place: i32) -> Result<Operation<L>, Problem<'a>>
         ensures { IfOk result (SaysOperation L.Label.text (line_words line.now)) }
     {
@@ -197,7 +211,7 @@ impl<'a> Reader<'a> {
         Ok(operation)
     }
 
-    // The calls, if there is a line `calls`, which is then the first.
+    /// The calls, if there is a line `calls`, which is then the first. Refuses a wrong line.
     pub fn calls<L: Label>(&self, lines: &[Line<'a>]) -> Result<Vec<Call<L>>, Fault<'a>>
         ensures { IfOk result (λ all. ReadsCalls L.Label.text lines.now all.items) }
     {
@@ -209,6 +223,7 @@ impl<'a> Reader<'a> {
         self.calls_said(lines)
     }
 
+    // The calls that the lines behind `calls` say.
     fn calls_said<L: Label>(&self, lines: &[Line<'a>]) -> Result<Vec<Call<L>>, Fault<'a>>
         ensures { IfOk result (λ all. SaysCalls L.Label.text (map line_words lines.now) all.items) }
     {
@@ -221,6 +236,7 @@ impl<'a> Reader<'a> {
         Ok(calls)
     }
 
+    // The call that a line says.
     fn call<L: Label>(&self, line: &Line<'a>) -> Result<Call<L>, Problem<'a>>
         ensures { IfOk result (SaysCall L.Label.text (line_words line.now)) }
     {
@@ -238,7 +254,7 @@ impl<'a> Reader<'a> {
             "go" => Call::Go {
                 fuel: read_wide(&mut rest)?,
             },
-            "command" => Call::Command {
+            "command" => Call::NextCommand {
                 from: read_index(&mut rest)?,
                 clearance: self.read_label(&mut rest)?,
             },
@@ -250,19 +266,23 @@ impl<'a> Reader<'a> {
         Ok(call)
     }
 
+    // Takes a number with its label.
     fn read_labelled<L: Label>(&self, rest: &mut Words<'a>) -> Result<Labelled<L>, Problem<'a>>
-        ensures { Reads (NumberRead L.Label.text) (words rest.old.0.now) result (words rest.new.0.now) }
+        ensures { ReadsWith (NumberRead L.Label.text)
+            (words rest.old.0.now) result (words rest.new.0.now) }
     {
         self.labelled(rest.due(Due::Labelled)?)
     }
 
+    // Takes a label.
     fn read_label<L: Label>(&self, rest: &mut Words<'a>) -> Result<L, Problem<'a>>
-        ensures { Reads (LabelRead L.Label.text) (words rest.old.0.now) result (words rest.new.0.now) }
+        ensures { ReadsWith (LabelRead L.Label.text)
+            (words rest.old.0.now) result (words rest.new.0.now) }
     {
         self.label(rest.due(Due::Label(self.kind))?)
     }
 
-    // The number and the label of n@l.
+    // The number and the label that a word has before and behind its `@`.
     fn labelled<L: Label>(&self, word: &'a str) -> Result<Labelled<L>, Problem<'a>>
         ensures { GivesNumber L.Label.text word.now result }
     {
@@ -274,13 +294,14 @@ impl<'a> Reader<'a> {
         Ok(Labelled { value, label })
     }
 
+    // The label that a word is the text of.
     fn label<L: Label>(&self, word: &'a str) -> Result<L, Problem<'a>>
         ensures { GivesLabel L.Label.text word.now result }
     {
         label_named(word).ok_or(Problem::WrongLabel(word, self.kind))
     }
 
-    // The number, or the place that is named.
+    // The number that a word is, or the place that it names.
     fn value(&self, word: &'a str, due: Due) -> Result<i32, Problem<'a>>
         ensures { GivesValue word.now result }
     {
@@ -291,7 +312,7 @@ impl<'a> Reader<'a> {
         }
     }
 
-    // The number, or how far it is from a place to the one that is named.
+    // The number that a word is, or how far it is from a place to the one that it names.
     fn distance(&self, word: &'a str, place: i32) -> Result<i32, Problem<'a>>
         ensures { GivesValue word.now result }
     {
@@ -315,7 +336,8 @@ fn distance<'a>(from: i32, to: i32) -> Result<i32, Problem<'a>>
 
 // The size of the memory, if a line gives it.
 fn memory_size(lines: &[Line<'_>]) -> Option<usize>
-    ensures { IfSome result (λ n. SomeLine (map line_words lines.now) (λ line. Counts 65535 line (codes "memory") n)) }
+    ensures { IfSome result (λ n. SomeLine (map line_words lines.now)
+        (λ line. SaysCount 65535 line (codes "memory") n)) }
 {
     for line in lines {
         if let Ok(Setting::Memory(count)) = Setting::read(line) {
@@ -325,8 +347,10 @@ fn memory_size(lines: &[Line<'_>]) -> Option<usize>
     None
 }
 
+// Fills a slot that is still empty. Refuses a line that is given for the second time.
 fn give<'a, T: Drop>(slot: &mut Option<T>, value: T, header: Header) -> Result<(), Problem<'a>>
-    ensures { IfOk result (λ _. (slot.old ≡ None) × (slot.new ≡ Some value)) }
+    ensures empty { IfOk result (λ _. slot.old ≡ None) }
+    ensures filled { IfOk result (λ _. slot.new ≡ Some value) }
 {
     if slot.is_some() {
         return Err(Problem::HeaderTwice(header));
@@ -335,13 +359,18 @@ fn give<'a, T: Drop>(slot: &mut Option<T>, value: T, header: Header) -> Result<(
     Ok(())
 }
 
+// Fills a cell that nothing was given for yet. Refuses a cell outside the memory, and one that is
+// given twice.
 fn give_cell<'a, L: Label>(
     cells: &mut Vec<Option<Labelled<L>>>,
     memory: usize,
     cell: usize,
     number: Labelled<L>,
 ) -> Result<(), Problem<'a>>
-    ensures { IfOk result (λ _. (cell < length cells.old.items) × (slice_index_or cells.old.items cell None ≡ None) × (cells.new.items ≡ slice_set cells.old.items cell (Some number))) }
+    ensures inside { IfOk result (λ _. cell < length cells.old.items) }
+    ensures empty { IfOk result (λ _. slice_index_or cells.old.items cell None ≡ None) }
+    ensures filled { IfOk result
+        (λ _. cells.new.items ≡ slice_set cells.old.items cell (Some number)) }
 {
     match cells.get_mut(cell) {
         None => Err(Problem::CellOutside { cell, memory }),
@@ -353,7 +382,7 @@ fn give_cell<'a, L: Label>(
     }
 }
 
-// 0 with the label that everybody may know.
+/// 0 with the label that everybody may know.
 pub fn zero<L: Label>() -> Labelled<L>
     ensures { result ≡ zero_at L.Label.kind.bottom }
 {
@@ -363,7 +392,7 @@ pub fn zero<L: Label>() -> Labelled<L>
     }
 }
 
-// How many numbers a call hands over, and whether a result is due.
+// Takes how many numbers a call hands over, and whether a result is due.
 fn read_operands<'a>(rest: &mut Words<'a>) -> Result<(u8, bool), Problem<'a>>
     ensures { SaysOperands (words rest.old.0.now) result (words rest.new.0.now) }
 {

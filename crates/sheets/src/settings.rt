@@ -5,13 +5,14 @@ ghost use Rattle.sheets.specs.Kinds.{HasKind, KindRead, ReadsKind};
 ghost use Rattle.sheets.specs.Lines.{SaysSetting};
 ghost use Rattle.sheets.specs.Numbers.{CountRead};
 ghost use Rattle.sheets.specs.Sheets.{line_words};
-ghost use Rattle.sheets.specs.Words.{Reads};
+ghost use Rattle.sheets.specs.Words.{ReadsWith};
 
 use crate::lines::{Line, Words};
 use crate::numbers::unsigned;
 use crate::{Due, Fault, Header, Kind, KindName, Problem};
 
-// What a line before the program says. The number of a cell is read later, when the places that it may name are known.
+/// What a line before the program says. The number of a cell is
+/// read later, when the places that it may name are known.
 #[derive(Clone, Copy)]
 pub enum Setting<'a> {
     Labels(Kind),
@@ -25,6 +26,8 @@ pub enum Setting<'a> {
 const MOST: u32 = 65_535;
 
 impl<'a> Setting<'a> {
+    /// What the line says. Refuses a line that does not begin with the
+    /// name of a setting, or goes on otherwise than that setting does.
     pub fn read(line: &Line<'a>) -> Result<Setting<'a>, Problem<'a>>
         ensures { IfOk result (SaysSetting (line_words line.now)) }
     {
@@ -46,7 +49,8 @@ impl<'a> Setting<'a> {
     }
 }
 
-// The kind of label of a sheet.
+/// The kind of label that a sheet's text gives. Refuses a text with no line
+/// that gives it before the program, or with a wrong line before that one.
 pub fn kind_of(text: &str) -> Result<Kind, Fault<'_>>
     ensures { IfOk result (HasKind text.now) }
 {
@@ -67,6 +71,7 @@ pub fn kind_of(text: &str) -> Result<Kind, Fault<'_>>
     Err(Problem::NoHeader(Header::Labels).nowhere())
 }
 
+// Takes the words of a kind of label.
 fn read_kind<'a>(rest: &mut Words<'a>) -> Result<Kind, Problem<'a>>
     ensures { ReadsKind (words rest.old.0.now) result (words rest.new.0.now) }
 {
@@ -77,28 +82,33 @@ fn read_kind<'a>(rest: &mut Words<'a>) -> Result<Kind, Problem<'a>>
     }
 }
 
+// The simple kind that a word names.
 fn kind_named(word: &str) -> Result<KindName, Problem<'_>>
     ensures { KindRead word.now result }
 {
     word.parse().map_err(|_| Problem::NoKind(word))
 }
 
+// Takes how many cells, entries or commands there are to be.
 fn read_count<'a>(rest: &mut Words<'a>) -> Result<usize, Problem<'a>>
-    ensures { Reads (CountRead 65535) (words rest.old.0.now) result (words rest.new.0.now) }
+    ensures { ReadsWith (CountRead 65535) (words rest.old.0.now) result (words rest.new.0.now) }
 {
     let word = rest.due(Due::Number(0, i64::from(MOST)))?;
     Ok(unsigned(word, MOST)? as usize)
 }
 
-// The number of a cell or of a place.
+/// Takes the number of a cell or of a place.
 pub fn read_index<'a>(rest: &mut Words<'a>) -> Result<usize, Problem<'a>>
-    ensures { Reads (CountRead 4294967295) (words rest.old.0.now) result (words rest.new.0.now) }
+    ensures { ReadsWith (CountRead 4294967295)
+        (words rest.old.0.now) result (words rest.new.0.now) }
 {
     Ok(read_wide(rest)? as usize)
 }
 
+/// Takes a number of 32 bits.
 pub fn read_wide<'a>(rest: &mut Words<'a>) -> Result<u32, Problem<'a>>
-    ensures { Reads (CountRead 4294967295) (words rest.old.0.now) result (words rest.new.0.now) }
+    ensures { ReadsWith (CountRead 4294967295)
+        (words rest.old.0.now) result (words rest.new.0.now) }
 {
     let word = rest.due(Due::Number(0, i64::from(u32::MAX)))?;
     unsigned(word, u32::MAX)

@@ -9,12 +9,12 @@ use crate::names::Names;
 use crate::reader::{Reader, Settings, zero};
 use crate::{Fault, Kind, Problem};
 use labels::Label;
-use machine::{Entry, Labelled, Operation};
-use sites::{Call, Parts};
+use machine::{Call, Entry, Labelled, Operation};
+use sites::Parts;
 use std::alloc::{AllocError, Global};
 use std::str;
 
-// What a sheet gives: a program, a memory, how long the stack and the log are, and calls.
+/// What a sheet gives: a program, a memory, how long the stack and the log are, and calls.
 #[derive(Debug, Drop)]
 pub struct Sheet<L> {
     pub program: Vec<Operation<L>>,
@@ -25,7 +25,8 @@ pub struct Sheet<L> {
 }
 
 impl<L: Label> Sheet<L> {
-    // The sheet that a text gives, or the first thing that is wrong with it. The kind is that of L, for whoever wrote another label.
+    /// The sheet that a text gives, or the first thing that is wrong with it. The
+    /// kind is that of L, and is told to whoever wrote another label.
     pub fn parse(heap: Global, text: &str, kind: Kind) -> Result<Sheet<L>, Fault<'_>>
         ensures { IfOk result (ReadsSheet L.Label.text L.Label.kind.bottom text.now) }
     {
@@ -33,6 +34,7 @@ impl<L: Label> Sheet<L> {
         Self::read(heap, lines.as_slice(), kind)
     }
 
+    // The sheet that the lines with words give.
     fn read<'a>(heap: Global, lines: &[Line<'a>], kind: Kind) -> Result<Sheet<L>, Fault<'a>>
         ensures { IfOk result (ReadsLines L.Label.text L.Label.kind.bottom lines.now) }
     {
@@ -50,7 +52,8 @@ impl<L: Label> Sheet<L> {
         })
     }
 
-    // The parts, with a stack and a log that hold 0 with the label that everybody may know, and the calls.
+    /// The parts, with a stack and a log that hold 0 with the label that everybody may know, and
+    /// the calls.
     pub fn into_parts(self, heap: Global) -> Result<(Parts<L>, Vec<Call<L>>), AllocError>
         ensures { IfOk result (λ x. GivesParts L.Label.kind.bottom self x.0 x.1.items) }
     {
@@ -64,7 +67,8 @@ impl<L: Label> Sheet<L> {
     }
 }
 
-// So many times the same. `Vec::from_elem` clones, and of labels of any kind it is not known that a clone is the same.
+// So many times the same. `Vec::from_elem` clones, and of labels
+// of any kind it is not known that a clone is the same.
 fn filled<T: Copy>(heap: Global, value: T, count: usize) -> Result<Vec<T>, AllocError>
     ensures { IfOk result (λ all. all.items ≡ replicate count value) }
 {
@@ -75,7 +79,7 @@ fn filled<T: Copy>(heap: Global, value: T, count: usize) -> Result<Vec<T>, Alloc
     Ok(all)
 }
 
-// The text that the bytes of a sheet are.
+/// The text that the bytes of a sheet are. Refuses bytes that are not UTF-8.
 pub fn text_of(bytes: &[u8]) -> Result<&str, Fault<'_>>
     ensures { MatchResult result (λ text. text.now ≡ bytes.now) (λ _. ¬ (IsUtf8 bytes.now)) }
 {

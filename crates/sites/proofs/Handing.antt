@@ -7,7 +7,6 @@ use Rattle.labels.specs.Kind.{Kind}
 use Rattle.rules.specs.Tables.{Table}
 use Rattle.rules.specs.declared.Policy.{Ghosts as Policy}
 use Rattle.machine.specs.Calls.{LentCall, lent, facts, misfit}
-
 use Rattle.machine.specs.Stations as stations
 use Rattle.machine.specs.Stations.{Station, Answer, refused, Takes, fitting, effect}
 use Rattle.machine.specs.Steps.{Setup, Contents, lengths}

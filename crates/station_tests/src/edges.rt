@@ -369,13 +369,15 @@ fn goes_with_other_parts_are_refused(rt: HostRuntime) -> Result<(), Fail> {
         same(&rt, name, "parts", parts, before);
         same(&rt, name, "askings", policy.asked, 1);
         let running = still_running(parts.go(MADE, station, &mut policy)?)?;
+        let registers = running.registers();
         let after = Registers {
             pc: 2,
             pc_label: L0,
             depth: 0,
-            commands: 1,
+            ..registers
         };
-        same(&rt, name, "registers after", running.registers(), after);
+        same(&rt, name, "registers after", registers, after);
+        same(&rt, name, "commands after", registers.window.count(), 1);
         same(&rt, name, "command after", parts.log[0], labelled!(7@L1));
         same(&rt, name, "askings after", policy.asked, 2);
     }
@@ -393,13 +395,21 @@ fn rounds_fill_the_log(rt: HostRuntime) -> Result<(), Fail> {
     let mut idle = parts.make()?;
     for commands in 0..64 {
         let running = idle.start();
+        let registers = running.registers();
         let begun = Registers {
             pc: 0,
             pc_label: L0,
             depth: 0,
-            commands,
+            ..registers
         };
-        same(&rt, "a round", "registers", running.registers(), begun);
+        same(&rt, "a round", "registers", registers, begun);
+        same(
+            &rt,
+            "a round",
+            "commands",
+            registers.window.count(),
+            commands,
+        );
         let gone = parts.go(running, &mut policy, 9)?;
         same(&rt, "a round", "steps", gone.steps, 3);
         let Station::Idle(after) = gone.station else {

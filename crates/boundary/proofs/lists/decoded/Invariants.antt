@@ -1,3 +1,4 @@
+-- How far the loop of `decoded` has come.
 use Rattle.std.proofs.Common.{take}
 use Rattle.boundary.specs.Parts.{CodesEach}
 use Rattle.boundary.proofs.lists.decoded.Given as goal

@@ -1,3 +1,4 @@
+-- What is left of a run, part by part.
 use Rattle.std.proofs.Common.{ap, ◌∙◌, map}
 use Rattle.boundary.proofs.plans.ran_code.Goals as goal
 

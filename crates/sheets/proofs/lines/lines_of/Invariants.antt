@@ -1,3 +1,4 @@
+-- How far the loop of `lines_of` has come.
 use Rattle.std.proofs.Common.{◌≡◌, map}
 use Rattle.sheets.specs.Sheets.{line_words, worded_lines}
 use Rattle.sheets.proofs.lines.lines_of.Given as goal

@@ -1,3 +1,4 @@
+-- How far the loop of `filled` has come.
 use Rattle.std.proofs.Common.{◌≡◌, replicate}
 use Rattle.sheets.proofs.sheet.filled.Given as goal
 

@@ -1,3 +1,4 @@
+-- What the lines of a text give, its text gives.
 use Rattle.std.proofs.Common.{List, map, ap, ◌∙◌}
 use Rattle.std.proofs.lemmas.Result.{IfOk-weaker}
 use Rattle.sheets.specs.declared.lines.Line.{Line}
@@ -11,5 +12,7 @@ returns g c =
     let bottom = g.L.Label.kind.bottom in
     let bytes = c.args.text.now in
     let all = c.as_slice.result.now in
-    let lines = ap (λ (l : List Line). map line_words l) c.as_slice.ensures.value ∙ c.in_ok-lines.ensures in
-    IfOk-weaker c.read.result (ReadsLines text bottom all) (ReadsSheet text bottom bytes) (λ sheet reads. whole text bottom bytes all sheet lines reads) c.read.ensures
+    let lines =
+    ap (λ (l : List Line). map line_words l) c.as_slice.ensures.value ∙ c.in_ok-lines.ensures in
+    IfOk-weaker c.read.result (ReadsLines text bottom all) (ReadsSheet text bottom bytes)
+    (λ sheet reads. whole text bottom bytes all sheet lines reads) c.read.ensures
