@@ -3,7 +3,8 @@ use Rattle.std.specs.Prelude.{◌≡◌, ◌≢◌, ◌⊎◌, ℕ, pos, replica
 use Rattle.std.specs.Prelude.{Err, Result}
 use Rattle.labels.specs.Kind.{Kind}
 use Rattle.machine.specs.Numbers.{refusal_number}
-use Rattle.rules.specs.Policies.{cached_policy, direct_policy, rows_policy}
+use Rattle.rules.specs.Policies.{cached_policy, direct_policy}
+use Rattle.rules.specs.Rows.{rows_policy}
 use Rattle.rules.specs.Tables.{published}
 use Rattle.rules.specs.declared.Policy.{Ghosts as Policy}
 use Rattle.compare.specs.Reports.{Compares, IsUnmade}

@@ -1,5 +1,6 @@
 -- Lists of calls made on a station, from making to the end.
-use Rattle.std.specs.Prelude.{◌≡◌, Bool, true, false, cond, not, ◌&&◌, List, [], ◌∷◌, length, Some, None, Ok, Err, Option, Result, ◌==◌}
+use Rattle.std.specs.Prelude.{◌≡◌, Bool, true, false, cond, not, ◌&&◌, ◌==◌, List, [], ◌∷◌, length}
+use Rattle.std.specs.Prelude.{Some, None, Ok, Err, Option, Result}
 use Rattle.labels.specs.Kind.{Kind}
 use Rattle.rules.specs.Tables.{published}
 use Rattle.rules.specs.declared.Policy.{Ghosts as Policy}
@@ -28,16 +29,19 @@ own_call call = record { call = call; lent = Own; reply = None }
 module _ {P L : Type 0} (kind : Kind L) (policy : Policy P L) where
   -- What a call that is lent its own or others' parts does, with what it leaves of them and of the policy.
   abbrev pub Meets : Installed P L → Call L → Lent L → Installed P L → Lent L → Reply L → Type 0
-  Meets before call Own left Own reply = Does kind (policy.faithful before.policy) before.sited call left.sited reply
+  Meets before call Own left Own reply =
+      Does kind (policy.faithful before.policy) before.sited call left.sited reply
       × StaysTrue policy before.policy left.policy
       × ((Asking before.sited.station call → ⊥) → left.policy ≡ before.policy)
-  Meets before call (Others parts) left (Others parts') reply = Refuses before.sited (sizes_of parts) call left.sited reply
+  Meets before call (Others parts) left (Others parts') reply =
+      Refuses before.sited (sizes_of parts) call left.sited reply
       × Untouched parts parts'
       × (left.policy ≡ before.policy)
   Meets before call lent left lent' reply = ⊥
 
   -- A call of a list, made on a station: the reply is kept with it.
-  pub record Exchanged (before : Installed P L) (asked : Exchange L) (left : Installed P L) (told : Exchange L) : Type 0 where
+  pub record Exchanged
+      (before : Installed P L) (asked : Exchange L) (left : Installed P L) (told : Exchange L) : Type 0 where
     pub same_call : told.call ≡ asked.call
     pub reply : Reply L
     pub kept : told.reply ≡ Some reply
@@ -76,8 +80,8 @@ module _ {L : Type 0} where
   abbrev pub inputs_of : Exchange L → List (Input L)
   inputs_of e = (facts e.call).inputs
 
-  -- Whether a call counts when two lists are compared: an enter or a start that was made, and not refused for a part. These are
-  -- the calls that are left of the history below when the others are struck out.
+  -- Whether a call counts when two lists are compared: an enter or a start that was made, and not
+  -- refused for a part. These are left of the history below when the others are struck out.
   abbrev pub counts : Exchange L → Bool
   counts e = replied stands e.reply && is_input e.call
 
@@ -90,8 +94,9 @@ module _ {L : Type 0} where
     -- The calls that were made, under a policy that is true to the published rows.
     abbrev pub calls_made : Sizes → List (Exchange L) → List (LentCall L)
     calls_made sizes [] = []
-    calls_made sizes (e ∷ es) =
-        cond (replied made e.reply) (lent e.call (lens_of sizes e.lent) (published kind) ∷ calls_made sizes es) (calls_made sizes es)
+    calls_made sizes (e ∷ es) = cond (replied made e.reply)
+        (lent e.call (lens_of sizes e.lent) (published kind) ∷ calls_made sizes es)
+        (calls_made sizes es)
 
     -- a station as it was made of these parts, and the calls made on it since
     abbrev pub history : Parts L → List (Exchange L) → History L

@@ -147,7 +147,8 @@ pub fn are_same<L: Label>(first: Labelled<L>, second: Labelled<L>) -> bool
     first.value == second.value && same(first.label, second.label)
 }
 
-// The operation, without the number that a push holds. A label has no `==` of its own, which the operation's would ask for.
+// The operation, without the number that a push holds. A label has no `==` of its own,
+// which the operation's would ask for.
 fn without_number<L: Label>(operation: Operation<L>) -> Operation<bool>
     ensures { result ≡ without_number operation }
 {

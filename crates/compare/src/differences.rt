@@ -23,7 +23,8 @@ pub trait Comparer<T> {
 
 // Where, of the elements that the observer has, neither list begins the other any more.
 pub fn first_difference<T, C: Comparer<T>>(comparer: &C, first: &[T], second: &[T]) -> Option<usize>
-    ensures { Breaks (OneBegins (C.Comparer.alike comparer.now)) (filter (C.Comparer.has comparer.now) first.now) (filter (C.Comparer.has comparer.now) second.now) result }
+    ensures { Breaks (OneBegins (C.Comparer.alike comparer.now))
+        (filter (C.Comparer.has comparer.now) first.now) (filter (C.Comparer.has comparer.now) second.now) result }
 {
     let mut place = 0;
     let mut rest = second;

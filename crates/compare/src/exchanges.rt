@@ -48,7 +48,8 @@ impl<L: Label> Exchange<L> {
         site
     }
 
-    /// Whether the call counts when two lists are compared: an enter or a start that was made, and not refused for a part.
+    /// Whether the call counts when two lists are compared: an enter or a start that was made,
+    /// and not refused for a part.
     pub fn counts(&self) -> bool
         ensures { result ≡ counts self.now }
     {

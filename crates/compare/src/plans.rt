@@ -24,7 +24,8 @@ pub struct Ran<P, L> {
 }
 
 impl<P: Policy<L> + Drop, L: Label> Plan<P, L> {
-    /// Makes the station and then the calls. Refused if the station is not made. A call that the station's state does not take is not made.
+    /// Makes the station and then the calls. Refused if the station is not made.
+    /// A call that the station's state does not take is not made.
     pub fn run(self) -> Result<Ran<P, L>, Refusal>
         ensures { RunsTo L.Label.kind P.Policy self result }
     {

@@ -1,7 +1,8 @@
 // Two plans run and compared as an observer at a level sees them.
 ghost use Rattle.std.specs.Prelude.{◌≡◌, ◌↔◌, IsTrue, Ok, Err, IfOk, IfErr};
 ghost use Rattle.machine.specs.Stations.{Idle};
-ghost use Rattle.compare.specs.Reports.{Compares, FirstLook, IsUnmade, KeepsSecret, LooksDue, LooksTold, NothingDiffers, SameBelow, SaysAlike, TellsAlike};
+ghost use Rattle.compare.specs.Reports.{Compares, FirstLook, IsUnmade, KeepsSecret, LooksDue, LooksTold};
+ghost use Rattle.compare.specs.Reports.{NothingDiffers, SameBelow, SaysAlike, TellsAlike};
 ghost use Rattle.compare.specs.Tests.{SameLook};
 
 use crate::comparers::{Cells, Commands, Inputs, Operations, are_same};
@@ -116,7 +117,8 @@ pub fn compare<P: Policy<L> + Drop, Q: Policy<L> + Drop, L: Label>(
 // Compares the looks, where they are due.
 fn compare_looks<P, Q, L: Label>(level: L, one: &Ran<P, L>, two: &Ran<Q, L>) -> Looks
     ensures { LooksTold L.Label.kind level
-        (LooksDue L.Label.kind level one.now.exchanges.items two.now.exchanges.items one.now.site.sited two.now.site.sited)
+        (LooksDue L.Label.kind level one.now.exchanges.items two.now.exchanges.items
+        one.now.site.sited two.now.site.sited)
         one.now.site.sited two.now.site.sited result }
 {
     if !looks_are_due(level, one, two) {
