@@ -53,16 +53,16 @@ module _ {L : Type 0} (code : L → ℕ) where
       record blank_end { state = stop_number stop; place = place; commands = length kept.commands }
 
   -- the entries in use, the oldest first
-  abbrev pub stack_of : Station L → List (Entry L)
-  stack_of (idle kept) = []
-  stack_of (running s) = reverse s.stack
-  stack_of (shut stop place kept) = []
+  abbrev pub stack_in_use : Station L → List (Entry L)
+  stack_in_use (idle kept) = []
+  stack_in_use (running s) = reverse s.stack
+  stack_in_use (shut stop place kept) = []
 
   -- what the last call left, and the replies
   pub record CodesRan {P : Type 0} (c : RanCode) (ran : Ran P L) : Type 0 where
     pub memory : c.memory.items ≡ map (number_code code) (memory_of ran.site.sited.station)
     pub commands : c.commands.items ≡ map (number_code code) (commands_of ran.site.sited.station)
-    pub stack : c.stack.items ≡ map (entry_code code) (stack_of ran.site.sited.station)
+    pub stack : c.stack.items ≡ map (entry_code code) (stack_in_use ran.site.sited.station)
     pub replies : c.replies.items ≡ map (λ e. reply_code code e.reply) ran.exchanges.items
     pub end : c.end ≡ end_code ran.site.sited.station
 

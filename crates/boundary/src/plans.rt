@@ -3,7 +3,7 @@ ghost use Rattle.std.specs.Prelude.{◌≡◌, IfOk, map};
 ghost use Rattle.boundary.specs.Decoding.{DecodesOnHeap};
 ghost use Rattle.boundary.specs.Parts.{entry_code};
 ghost use Rattle.boundary.specs.Plans.{CodesParts, CodesPlan, CodesRan, RunsCode, end_code};
-ghost use Rattle.boundary.specs.Plans.{stack_of};
+ghost use Rattle.boundary.specs.Plans.{stack_in_use};
 
 use crate::calls::{CallCode, ReplyCode, state_code, state_place};
 use crate::codes::Coded;
@@ -142,7 +142,7 @@ fn end_of<P: Policy<L> + Drop, L: Coded>(
 ) -> Result<(End, Vec<EntryCode>), AllocError>
     ensures end { IfOk result (λ r. r.0 ≡ end_code L.Coded.code site.now.sited.station) }
     ensures stack { IfOk result (λ r. r.1.items
-        ≡ map (entry_code L.Coded.code) (stack_of L.Coded.code site.now.sited.station)) }
+        ≡ map (entry_code L.Coded.code) (stack_in_use L.Coded.code site.now.sited.station)) }
 {
     let commands = site.commands().len() as u64;
     match site.rehearse(heap)? {

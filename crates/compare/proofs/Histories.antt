@@ -8,7 +8,7 @@ use Rattle.rules.specs.declared.Policy.{Ghosts as Policy}
 use Rattle.machine.specs.Calls.{Input, LentCall, lent, facts, is_taken, is_input, is_some_input, misfit}
 use Rattle.machine.specs.Numbers.{first_wrong, outside_limits, size_of}
 use Rattle.machine.specs.Observer.{History, setup_of, end_of, inputs, struck, left_of, AllUnder, Proper}
-use Rattle.machine.specs.Stations.{Station, Answer, granted, refused, fitting, Takes, Allowed, answer, after, after_all, memory_of, reply, effect, made as made_station, looked, shows, state_of}
+use Rattle.machine.specs.Stations.{Station, Answer, granted, refused, fitting, Takes, Allowed, answer, after, after_all, memory_of, reply, effect, made, looked, shows, state_of}
 use Rattle.machine.specs.Steps.{Setup, element}
 use Rattle.machine.specs.declared.answers.Part.{Part}
 use Rattle.machine.specs.declared.answers.Part.TheVariants.{Program, Memory, Stack, Log}
@@ -22,7 +22,7 @@ use Rattle.sites.specs.Sites.{Installed, Untouched, sizes_of}
 use Rattle.sites.specs.declared.lending.Parts.{Parts}
 use Rattle.sites.specs.declared.replies.Reply.{Reply}
 use Rattle.sites.specs.declared.replies.Reply.TheVariants as told
-use Rattle.compare.specs.Runs.{Meets, Plays, over, next, RunsTo, made, stands, replied, counts, inputs_of, lens_of, calls_made, history}
+use Rattle.compare.specs.Runs.{Meets, Plays, over, next, RunsTo, says_made, stands, replied, counts, inputs_of, lens_of, calls_made, history}
 use Rattle.compare.specs.declared.exchanges.Exchange.{Exchange}
 use Rattle.compare.specs.declared.exchanges.Lent.{Lent}
 use Rattle.compare.specs.declared.exchanges.Lent.TheVariants.{Own, Others}
@@ -46,7 +46,7 @@ module _ {L : Type 0} where
   own_fits sizes call = own_sizes sizes (facts call).handed
 
   -- A reply that says an answer says that the call was made.
-  said_made : (r : Reply L) (a : Answer L) (left : Station L) → Says r a left → made r ≡ true
+  said_made : (r : Reply L) (a : Answer L) (left : Station L) → Says r a left → says_made r ≡ true
   said_made (told.NotTaken state) a left says = absurd says
   said_made told.NotLent a left says = absurd says
   said_made r a left says = refl
@@ -95,8 +95,8 @@ module _ {L : Type 0} (kind : Kind L) where
   module _ (setup : Setup L) where
     -- A call of a list that was not made, or that was.
     pub data Met (st : Station L) (e : Exchange L) (left : Station L) : Type 0 where
-      unmade : replied made e.reply ≡ false → counts e ≡ false → left ≡ st → Met st e left
-      was_made : (lens : Sizes) → lens ≡ lens_of setup.sizes e.lent → replied made e.reply ≡ true → Takes st e.call
+      unmade : replied says_made e.reply ≡ false → counts e ≡ false → left ≡ st → Met st e left
+      was_made : (lens : Sizes) → lens ≡ lens_of setup.sizes e.lent → replied says_made e.reply ≡ true → Takes st e.call
           → left ≡ after kind setup st (lent e.call lens (published kind))
           → left_of setup.sizes (lent e.call lens (published kind)) ≡ cond (counts e) (inputs_of e) [] → Met st e left
 
@@ -147,7 +147,7 @@ module _ {L : Type 0} (kind : Kind L) where
           ∙ ap (λ b. cond (b && is_input call) (facts call).inputs []) (sym standing)))
           (λ never.
           let declines = does.declined never in
-          unmade (ap made declines.says) (ap (λ x. stands x && is_input call) declines.says) (sym is ∙ ap (λ s. s.station) declines.kept))
+          unmade (ap says_made declines.says) (ap (λ x. stands x && is_input call) declines.says) (sym is ∙ ap (λ s. s.station) declines.kept))
           (true_or_not (is_taken call (state_of st)))
 
       -- or others.
@@ -162,17 +162,17 @@ module _ {L : Type 0} (kind : Kind L) where
         same_station = sym is ∙ ap (λ s. s.station) refuses.kept
 
         by_part : Takes st call → (first : Option Part) → misfit setup.sizes call (sizes_of parts) ≡ first → Met st told_exchange left
-        by_part takes None none = let is_reply = refuses.not_lent takes none in unmade (ap made is_reply) (ap (λ x. stands x && is_input call) is_reply) same_station
+        by_part takes None none = let is_reply = refuses.not_lent takes none in unmade (ap says_made is_reply) (ap (λ x. stands x && is_input call) is_reply) same_station
         by_part takes (Some part) wrong =
             let is_reply = refuses.refused_for part takes wrong in
-            was_made (sizes_of parts) same_sizes (ap made is_reply) takes
+            was_made (sizes_of parts) same_sizes (ap says_made is_reply) takes
             (same_station ∙ sym (ap (λ w. fitting w (λ _. st) (effect kind setup (published kind) st call)) wrong))
             (ap (λ w. fitting w (λ _. []) (facts call).inputs) wrong ∙ ap (λ x. cond (stands x && is_input call) (facts call).inputs []) (sym is_reply))
 
         pub others_met : Met st told_exchange left
         others_met = ⊎_elim
             (λ takes. by_part takes (misfit setup.sizes call (sizes_of parts)) refl)
-            (λ never. let is_reply = refuses.declined never in unmade (ap made is_reply) (ap (λ x. stands x && is_input call) is_reply) same_station)
+            (λ never. let is_reply = refuses.declined never in unmade (ap says_made is_reply) (ap (λ x. stands x && is_input call) is_reply) same_station)
             (true_or_not (is_taken call (state_of st)))
 
 module _ {P L : Type 0} (kind : Kind L) (policy : Policy P L) where
@@ -216,7 +216,7 @@ pub record Past {L : Type 0} (kind : Kind L) (h : History L) (es : List (Exchang
 
 -- a station that was made
 made_is : {L : Type 0} (memory : List (Labelled L)) (wrong : Option Part) (st : Station L)
-    → fitting wrong (λ part. Err (Limits part)) (Ok (made_station memory)) ≡ Ok st → st ≡ made_station memory
+    → fitting wrong (λ part. Err (Limits part)) (Ok (made memory)) ≡ Ok st → st ≡ made memory
 made_is memory None st same = cc same
 made_is memory (Some part) st same = cc same
 
@@ -227,11 +227,11 @@ past kind policy plan ran true_to runs =
     let h = history kind plan.parts ran.exchanges.items in
     let site = runs.0 in
     let installs = runs.1 in
-    let starts : site.sited.station ≡ made_station plan.parts.memory.items = made_is plan.parts.memory.items (outside_limits (setup_of h).sizes) site.sited.station installs.0 in
+    let starts : site.sited.station ≡ made plan.parts.memory.items = made_is plan.parts.memory.items (outside_limits (setup_of h).sizes) site.sited.station installs.0 in
     let setup_is : site.sited.setup ≡ setup_of h = sym installs.1 in
     let went = lived kind policy (subst (λ p. policy.faithful p (published kind)) (sym installs.2) true_to) runs.2 in
-    let life : Lived kind (setup_of h) (made_station plan.parts.memory.items) ran.exchanges.items ran.site.sited.station
-    = subst (λ s. Lived kind s (made_station plan.parts.memory.items) ran.exchanges.items ran.site.sited.station) setup_is
+    let life : Lived kind (setup_of h) (made plan.parts.memory.items) ran.exchanges.items ran.site.sited.station
+    = subst (λ s. Lived kind s (made plan.parts.memory.items) ran.exchanges.items ran.site.sited.station) setup_is
     (subst (λ st. Lived kind site.sited.setup st ran.exchanges.items ran.site.sited.station) starts went.0) in record {
       proper = (life.allowed, life.under);
       ends = life.ends;

@@ -62,15 +62,15 @@ module _ {P L : Type 0} (kind : Kind L) (policy : Policy P L) where
 
 module _ {L : Type 0} where
   -- whether a reply says that the call was made
-  abbrev pub made : Reply L → Bool
-  made (NotTaken state) = false
-  made NotLent = false
-  made reply = true
+  abbrev pub says_made : Reply L → Bool
+  says_made (NotTaken state) = false
+  says_made NotLent = false
+  says_made reply = true
 
   -- Whether a reply says that the call was made and not refused with 2.
   abbrev pub stands : Reply L → Bool
   stands (Refused why) = not (refusal_number why == 2)
-  stands reply = made reply
+  stands reply = says_made reply
 
   abbrev pub replied : (Reply L → Bool) → Option (Reply L) → Bool
   replied test None = false
@@ -94,7 +94,7 @@ module _ {L : Type 0} where
     -- The calls that were made, under a policy that is true to the published rows.
     abbrev pub calls_made : Sizes → List (Exchange L) → List (LentCall L)
     calls_made sizes [] = []
-    calls_made sizes (e ∷ es) = cond (replied made e.reply)
+    calls_made sizes (e ∷ es) = cond (replied says_made e.reply)
         (lent e.call (lens_of sizes e.lent) (published kind) ∷ calls_made sizes es)
         (calls_made sizes es)
 

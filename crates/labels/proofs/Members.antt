@@ -4,7 +4,7 @@ use Rattle.std.specs.Int.{bit_at}
 use Rattle.std.specs.Prelude.{bit_or}
 use Rattle.std.proofs.lemmas.Nat.Bits.{bit_at_or, bit_at-lt, same_from_bits}
 use Rattle.std.proofs.lemmas.Bool.{cases_Bool, eqb-true, eqb-false, eq-eqb}
-use Rattle.labels.specs.Growers.{grower_sets, In, Within}
+use Rattle.labels.specs.Growers.{grower_sets, In, IsSubset}
 use Rattle.labels.specs.declared.growers.mask.Growers.{Growers}
 
 -- with every bit of a in b, a adds none to b
@@ -17,7 +17,7 @@ absorbed a b within =
 
 -- the test of the order is inclusion
 pub inclusion : (a b : Growers)
-    → (grower_sets.below a b ≡ true → Within a b) × (Within a b → grower_sets.below a b ≡ true)
+    → (grower_sets.below a b ≡ true → IsSubset a b) × (IsSubset a b → grower_sets.below a b ≡ true)
 inclusion a b = (
   λ e g here.
       let same = ap (λ n. bit_at n g) (eqb-true (bit_or a.mask b.mask) b.mask e) in

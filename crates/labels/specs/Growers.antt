@@ -11,8 +11,8 @@ abbrev pub In : ℕ → Growers → Type 0
 In g a = a.mask / 2 ^ g % 2 ≡ 1
 
 -- every grower in a is in b
-abbrev pub Within : Growers → Growers → Type 0
-Within a b = (g : ℕ) → In g a → In g b
+abbrev pub IsSubset : Growers → Growers → Type 0
+IsSubset a b = (g : ℕ) → In g a → In g b
 
 -- r has the growers of a and of b, and no other
 abbrev pub Unites : Growers → Growers → Growers → Type 0

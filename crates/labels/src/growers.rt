@@ -1,6 +1,6 @@
 // Sets of growers as labels, ordered by inclusion, joined by union, four hexadecimal digits each.
 ghost use Rattle.std.specs.Prelude.{◌≡◌, ◌↔◌, ℕ, ◌<◌, IsTrue, ◌==◌, bit_or, Some, refl};
-ghost use Rattle.labels.specs.Growers.{grower_sets, grower_text, In, Within, Unites, hex, HexDigit};
+ghost use Rattle.labels.specs.Growers.{grower_sets, grower_text, In, IsSubset, Unites, hex, HexDigit};
 ghost use Rattle.labels.specs.Masks.{grower_laws};
 ghost use Rattle.labels.specs.PrefixFree.{growers_prefix_free};
 
@@ -24,7 +24,7 @@ impl Label for Growers {
 
     fn flows_to(self, other: Growers) -> bool
         ensures below { result ≡ grower_sets.below self other }
-        ensures inclusion { IsTrue result ↔ Within self other }
+        ensures inclusion { IsTrue result ↔ IsSubset self other }
     {
         included(self.mask, other.mask)
     }

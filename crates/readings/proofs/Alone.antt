@@ -8,7 +8,7 @@ use Rattle.std.proofs.Math.Pow.{pow-lt}
 use Rattle.std.proofs.lemmas.Bool.{cases_Bool, eqb-true, eqb-false, ltb-true}
 use Rattle.std.proofs.lemmas.Bool.Decides.{same_from_decides, Decides-eqb}
 use Rattle.std.proofs.lemmas.Nat.Bits.{bit_at-pow_same, bit_at-pow_other}
-use Rattle.labels.specs.Growers.{grower_sets, In, Within}
+use Rattle.labels.specs.Growers.{grower_sets, In, IsSubset}
 use Rattle.labels.specs.declared.growers.mask.Growers.{Growers}
 use Rattle.labels.proofs.Members.{inclusion}
 use Rattle.readings.specs.Readings.{admitted}
@@ -31,7 +31,7 @@ only_own k g h here =
     (cases_Bool (g == k))
 
 -- it is within every set that he is in
-within : (k : ℕ) (a : Growers) → k < 16 → In k a → Within (alone k) a
+within : (k : ℕ) (a : Growers) → k < 16 → In k a → IsSubset (alone k) a
 within k a h here g there = subst (λ n. In n a) (sym (only_own k g h there)) here
 
 -- below sixteen, the bit is the order

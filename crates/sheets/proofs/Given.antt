@@ -16,7 +16,7 @@ use Rattle.sheets.specs.Lines.{SaysCount}
 use Rattle.sheets.specs.Numbers.{CountRead}
 use Rattle.sheets.specs.Settings.{IsSetting, AreSettings, SomeLine, OnlySaid, BeginsOther, NoLine}
 use Rattle.sheets.specs.Settings.{GivenOr, GivesCount, SaysCell, GivesCell, HeldOr, AddsSetting}
-use Rattle.sheets.specs.Settings.{SaysSettings, Settles}
+use Rattle.sheets.specs.Settings.{SaysSettings, FillsIn}
 use Rattle.sheets.specs.Parts.{zero_at}
 use Rattle.sheets.specs.declared.reader.Settings.{Settings}
 
@@ -257,7 +257,7 @@ module _ {L : Type 0} (text : L → List ℕ) where
   pub all_settled : (bottom : L) (memory : Option ℕ) (ws : List (List (List ℕ))) (given : Given L)
       → AllSaid memory ws given
       → IfSome memory (λ m. SomeLine ws (λ line. SaysCount 65535 line (codes "memory") m))
-      → (s : Settings L) → Settles bottom memory given s
+      → (s : Settings L) → FillsIn bottom memory given s
       → SaysSettings text bottom ws s.memory.items s.stack s.log
   all_settled bottom memory ws given said sized s settles =
       let cell : Option (Labelled L) → Labelled L = λ o. unwrap_or o (zero_at bottom) in

@@ -7,12 +7,12 @@ use Rattle.std.specs.Prelude.{codes}
 use Rattle.sheets.specs.declared.lines.Line.{Line}
 use Rattle.sheets.specs.declared.sheet.Sheet.{Sheet}
 use Rattle.sheets.specs.Settings.{SaysSettings}
-use Rattle.sheets.specs.Sheets.{BeginsWith, line_words, sheet_lines, ReadsLines, ReadsSheet}
+use Rattle.sheets.specs.Sheets.{HeadedBy, line_words, sheet_lines, ReadsLines, ReadsSheet}
 use Rattle.sheets.specs.Sheets.{ReadsProgram, ReadsCalls, CallsBehind}
 
 module _ (word : List ℕ) where
   begins_at : (xs : List Line) (i : ℕ) → i < length xs
-      → HoldsAt (λ (x : Line). x.first.now ≡ word) xs i → BeginsWith word (drop i xs)
+      → HoldsAt (λ (x : Line). x.first.now ≡ word) xs i → HeadedBy word (drop i xs)
   begins_at [] i lt at = absurd (omega (arith, lt))
   begins_at (x ∷ xs) zero lt at = at x
   begins_at (x ∷ xs) (suc i) lt at = begins_at xs i (omega (arith, lt)) (λ d. at d)
@@ -21,23 +21,23 @@ module _ (word : List ℕ) where
   pub begins : (No : Line → Type 0) (xs back : List Line) (r : Option ℕ)
       → MatchOption r (AllWithin No xs 0 (length xs))
       (λ i. (i < length xs) × HoldsAt (λ (x : Line). x.first.now ≡ word) xs i × AllWithin No xs 0 i)
-      → (mid : ℕ) → mid ≡ unwrap_or r (length xs) → back ≡ drop mid xs → BeginsWith word back
+      → (mid : ℕ) → mid ≡ unwrap_or r (length xs) → back ≡ drop mid xs → HeadedBy word back
   begins No xs back None none mid at is =
-      subst (BeginsWith word) (sym (is ∙ drop_all mid xs (omega (arith, at)))) tt
+      subst (HeadedBy word) (sym (is ∙ drop_all mid xs (omega (arith, at)))) tt
   begins No xs back (Some i) (lt, holds, before) mid at is =
-      subst (BeginsWith word) (sym (is ∙ ap (λ n. drop n xs) at)) (begins_at xs i lt holds)
+      subst (HeadedBy word) (sym (is ∙ ap (λ n. drop n xs) at)) (begins_at xs i lt holds)
 
-  pub begins_front : (xs ys all : List Line) → all ≡ xs ++ ys → BeginsWith word all
-      → BeginsWith word xs
+  pub begins_front : (xs ys all : List Line) → all ≡ xs ++ ys → HeadedBy word all
+      → HeadedBy word xs
   begins_front [] ys all is b = tt
-  begins_front (x ∷ xs) ys all is b = subst (BeginsWith word) is b
+  begins_front (x ∷ xs) ys all is b = subst (HeadedBy word) is b
 
 header : (first word : List ℕ) (rest : List (List ℕ)) → first ≡ word → rest ≡ []
     → first ∷ rest ≡ word ∷ []
 header first word rest e f = ap (λ w. w ∷ rest) e ∙ ap (λ ws. word ∷ ws) f
 
 module _ {L : Type 0} (text : L → List ℕ) where
-  calls_behind : (calls : List Line) (sheet : Sheet L) → BeginsWith (codes "calls") calls
+  calls_behind : (calls : List Line) (sheet : Sheet L) → HeadedBy (codes "calls") calls
       → ReadsCalls text calls sheet.calls.items
       → CallsBehind text (map line_words calls) sheet.calls.items
   calls_behind [] sheet begins reads = reads
@@ -46,8 +46,8 @@ module _ {L : Type 0} (text : L → List ℕ) where
 
   from_parts : (bottom : L) (bytes : List ℕ) (all before program calls : List Line)
       (sheet : Sheet L) → map line_words all ≡ sheet_lines bytes
-      → all ≡ before ++ (program ++ calls) → BeginsWith (codes "program") program
-      → BeginsWith (codes "calls") calls
+      → all ≡ before ++ (program ++ calls) → HeadedBy (codes "program") program
+      → HeadedBy (codes "calls") calls
       → SaysSettings text bottom (map line_words before) sheet.memory.items sheet.stack sheet.log
       → ReadsProgram text program sheet.program.items → ReadsCalls text calls sheet.calls.items
       → ReadsSheet text bottom bytes sheet

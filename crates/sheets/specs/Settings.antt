@@ -92,7 +92,7 @@ module _ {L : Type 0} (text : L → List ℕ) where
     pub long : GivenOr 64 lines (codes "log") log
 
 -- what was given, and what stands for the rest
-pub record Settles {L : Type 0} (bottom : L) (memory : Option ℕ) (given : Given L)
+pub record FillsIn {L : Type 0} (bottom : L) (memory : Option ℕ) (given : Given L)
     (settings : Settings L) : Type 0 where
   pub sized : IsSome memory
   pub cells : settings.memory.items

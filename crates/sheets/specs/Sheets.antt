@@ -33,9 +33,9 @@ abbrev pub sheet_lines : List ℕ → List (List (List ℕ))
 sheet_lines text = worded_lines (lines text)
 
 -- the first line, if there is one, begins with the word
-abbrev pub BeginsWith : List ℕ → List Line → Type 0
-BeginsWith word [] = Unit {0}
-BeginsWith word (line ∷ more) = line.first.now ≡ word
+abbrev pub HeadedBy : List ℕ → List Line → Type 0
+HeadedBy word [] = Unit {0}
+HeadedBy word (line ∷ more) = line.first.now ≡ word
 
 -- a name with a colon, alone
 abbrev pub NamesPlace : List (List ℕ) → Type 0
@@ -80,7 +80,7 @@ module _ {L : Type 0} (text : L → List ℕ) where
   abbrev pub ReadsLines : L → List Line → Sheet L → Type 0
   ReadsLines bottom all sheet =
       (before program calls : List Line) × (all ≡ before ++ (program ++ calls))
-      × BeginsWith (codes "program") program × BeginsWith (codes "calls") calls
+      × HeadedBy (codes "program") program × HeadedBy (codes "calls") calls
       × SaysSettings text bottom (map line_words before) sheet.memory.items sheet.stack sheet.log
       × ReadsProgram program sheet.program.items × ReadsCalls calls sheet.calls.items
 

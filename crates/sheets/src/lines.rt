@@ -1,7 +1,7 @@
 // The lines of a sheet that have words, and the words of a line.
 ghost use Rattle.std.specs.Prelude.{◌≡◌, [], ◌∷◌, ◌++◌, IfOk, map};
 ghost use Rattle.text.specs.Words.{words};
-ghost use Rattle.sheets.specs.Sheets.{BeginsWith, GivesLine, line_words, sheet_lines};
+ghost use Rattle.sheets.specs.Sheets.{HeadedBy, GivesLine, line_words, sheet_lines};
 ghost use Rattle.sheets.specs.Words.{TakesWord};
 
 use crate::{Due, Problem};
@@ -82,7 +82,7 @@ pub fn lines_of(heap: Global, text: &str) -> Result<Vec<Line<'_>>, AllocError>
 /// The lines before the first that begins with the word, and the lines from that one on.
 pub fn split_at_word<'l, 'a>(lines: &'l [Line<'a>], word: &str) -> (&'l [Line<'a>], &'l [Line<'a>])
     ensures all { lines.now ≡ result.0.now ++ result.1.now }
-    ensures begins { BeginsWith word.now result.1.now }
+    ensures begins { HeadedBy word.now result.1.now }
 {
     let index = lines.iter().position(|line| line.first == word);
     lines.split_at(index.unwrap_or(lines.len()))

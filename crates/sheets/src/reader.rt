@@ -7,7 +7,7 @@ ghost use Rattle.text.specs.Words.{words};
 ghost use Rattle.sheets.specs.Lines.{SaysCount, SaysCall, SaysOperation, SaysOperands};
 ghost use Rattle.sheets.specs.Numbers.{GivesLabel, GivesNumber, GivesValue, LabelRead, NumberRead};
 ghost use Rattle.sheets.specs.Parts.{zero_at};
-ghost use Rattle.sheets.specs.Settings.{AddsSetting, SaysSettings, Settles, SomeLine};
+ghost use Rattle.sheets.specs.Settings.{AddsSetting, SaysSettings, FillsIn, SomeLine};
 ghost use Rattle.sheets.specs.Sheets.{Adds, ReadsCalls, ReadsProgram, SaysCalls, SaysProgram};
 ghost use Rattle.sheets.specs.Sheets.{line_words};
 ghost use Rattle.sheets.specs.Words.{ReadsWith};
@@ -112,7 +112,7 @@ impl<'a> Reader<'a> {
         memory: Option<usize>,
         given: Given<L>,
     ) -> Result<Settings<L>, Problem<'a>>
-        ensures { IfOk result (Settles L.Label.kind.bottom memory given) }
+        ensures { IfOk result (FillsIn L.Label.kind.bottom memory given) }
     {
         if given.labels.is_none() {
             return Err(Problem::NoHeader(Header::Labels));

@@ -1,3 +1,4 @@
+-- One element more is alike, or differs, or a list is at its end.
 use Rattle.std.proofs.Common.{◌≤◌, ◌<◌, length, refl, sym, arith}
 use Rattle.compare.proofs.Breaking.{shifted_zero}
 use Rattle.compare.proofs.Walking.{walked_out, passed_over, none_left, stopped, walked_on}

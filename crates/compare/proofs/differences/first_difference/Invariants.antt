@@ -1,3 +1,4 @@
+-- Up to this element the lists do not differ, and `rest` is what is left of the second.
 use Rattle.std.proofs.Common.{◌≤◌}
 use Rattle.compare.proofs.Walking.{Walked}
 use Rattle.compare.proofs.differences.first_difference.Given as goal

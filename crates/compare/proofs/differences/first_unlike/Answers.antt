@@ -1,3 +1,4 @@
+-- One place more is alike, or differs, or a list is at its end.
 use Rattle.std.proofs.Common.{◌≡◌, ◌<◌, ◌≤◌, length, refl, arith}
 use Rattle.compare.proofs.Breaking.{shifted_zero}
 use Rattle.compare.proofs.Walking.{first_over, both_over, second_over, differ_at, compared_on}

@@ -1,3 +1,4 @@
+-- Up to this place the lists are alike.
 use Rattle.compare.proofs.Walking.{Compared}
 use Rattle.compare.proofs.differences.first_unlike.Given as goal
 

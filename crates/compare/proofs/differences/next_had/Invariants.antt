@@ -1,3 +1,4 @@
+-- What was passed over the observer does not have.
 use Rattle.std.proofs.Common.{◌≡◌, filter, length}
 use Rattle.compare.proofs.differences.next_had.Given as goal
 

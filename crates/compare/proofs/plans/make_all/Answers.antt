@@ -1,3 +1,4 @@
+-- One exchange more is made.
 use Rattle.std.proofs.Common.{◌<◌, length, refl, arith}
 use Rattle.compare.specs.Runs.{over}
 use Rattle.compare.proofs.Exchanging.{made_more}

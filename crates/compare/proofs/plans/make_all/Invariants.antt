@@ -1,3 +1,4 @@
+-- The exchanges before this one are made, and those from it on as they were.
 use Rattle.std.proofs.Common.{◌≡◌, length, take, drop}
 use Rattle.compare.specs.Runs.{Plays}
 use Rattle.compare.proofs.plans.make_all.Given as goal

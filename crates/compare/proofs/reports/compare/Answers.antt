@@ -1,3 +1,4 @@
+-- Each part of the report is the comparison that is defined; what follows for alike stations and calls.
 use Rattle.std.proofs.Common.{filter, subst}
 use Rattle.machine.specs.Lists.{Each, OneBegins}
 use Rattle.machine.specs.Observer.{Alike, AlikeOperation, AlikeStations}

@@ -1,3 +1,4 @@
+-- One cell more has the same answer, or another, or there is none left.
 use Rattle.std.proofs.Common.{◌≤◌, length, refl, sym, ap, ◌∙◌, ⊎_elim, arith, below_more}
 use Rattle.machine.specs.Stations.{memory_of}
 use Rattle.compare.proofs.Looking.{same_said, said_same, look_is, look_says, look_beyond, inside_or_beyond}

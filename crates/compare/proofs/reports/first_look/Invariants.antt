@@ -1,3 +1,4 @@
+-- Up to this cell the looks have the same answers.
 use Rattle.std.proofs.Common.{◌≡◌, ℕ, ◌<◌}
 use Rattle.compare.specs.Reports.{look_at}
 use Rattle.compare.proofs.reports.first_look.Given as goal

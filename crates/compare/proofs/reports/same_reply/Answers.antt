@@ -1,3 +1,4 @@
+-- Replies to looks are the same if both show one number, or both refuse for one reason.
 use Rattle.std.proofs.Common.{rules, ◌≡◌, ◌↔◌, IsTrue}
 use Rattle.compare.specs.Tests.{same_shown, same_refused}
 use Rattle.compare.proofs.Looking.{shown_same, refused_same}

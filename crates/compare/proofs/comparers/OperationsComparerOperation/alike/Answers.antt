@@ -1,3 +1,4 @@
+-- Operations are compared without the number that a push holds, and pushes by their numbers.
 use Rattle.std.proofs.Common.{rules, ◌≡◌, ◌↔◌, IsTrue}
 use Rattle.machine.specs.Observer.{alike_push}
 use Rattle.compare.specs.Tests.{without_number}

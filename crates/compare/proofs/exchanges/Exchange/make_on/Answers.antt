@@ -1,3 +1,4 @@
+-- The call is lent the station's own parts, or others'.
 use Rattle.compare.proofs.Exchanging.{own_exchanged, others_exchanged}
 use Rattle.compare.proofs.exchanges.Exchange.make_on.Goals as goal
 use Rattle.compare.proofs.exchanges.Exchange.make_on.Goals.{in-Own, in-Others}

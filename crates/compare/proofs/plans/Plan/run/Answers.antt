@@ -1,3 +1,4 @@
+-- What is left of the run, with its exchanges in a vector.
 use Rattle.std.proofs.Common.{length, sym, ap, ◌∙◌}
 use Rattle.std.proofs.lemmas.List.{with_items_is}
 use Rattle.compare.proofs.plans.Plan.run.Goals as goal

@@ -3,7 +3,7 @@ use Rattle.std.proofs.Common.{map, subst, sym}
 use Rattle.std.proofs.lemmas.List.{take_all}
 use Rattle.std.proofs.lemmas.Result.{IfOk-weaker}
 use Rattle.sheets.specs.Sheets.{line_words}
-use Rattle.sheets.specs.Settings.{Settles, SaysSettings}
+use Rattle.sheets.specs.Settings.{FillsIn, SaysSettings}
 use Rattle.sheets.proofs.Given.{AllSaid, all_more, all_settled, passed_on}
 use Rattle.sheets.proofs.InOrder.{at_ok, next_line}
 use Rattle.sheets.proofs.reader.Reader.settings.Goals as goal
@@ -18,7 +18,7 @@ returns g c =
     (take_all c.loop-line.line-index c.args.lines.now c.loop-line-test.false)
     c.loop-line.invariant in
     passed_on c.settled.result c.map_err-2.result _ _ c.map_err-2.ensures.cases
-    (IfOk-weaker c.settled.result (Settles bottom c.memory_size-memory.result c.loop-line.given)
+    (IfOk-weaker c.settled.result (FillsIn bottom c.memory_size-memory.result c.loop-line.given)
     (λ s. SaysSettings text bottom ws s.memory.items s.stack s.log)
     (λ s settles.
     all_settled text bottom c.memory_size-memory.result ws c.loop-line.given said
