@@ -21,19 +21,15 @@ no_halt Halt not = absurd (not refl)
 no_halt op not = refl
 
 module _ {L : Type 0} (kind : Kind L) (table : Table L) (setup : Setup L) (s : Round L) where
-  -- a halt is decided with or without fuel
-  pub halting : (fuel : ℕ) (op : Operation L) → op ≡ Halt → attempt kind table setup fuel s op ≡ halted kind table setup s
-  halting fuel op is = ap (attempt kind table setup fuel s) is
+  -- without fuel any operation but halt waits
+  pub waiting : (op : Operation L) → op ≢ Halt → attempt kind table setup 0 s op ≡ Err OutOfFuel
+  waiting op not = ap (λ b. cond b (halted kind table setup s) (Err OutOfFuel)) (no_halt op not)
 
-  -- without fuel any other operation waits
-  pub waiting : (fuel : ℕ) → fuel ≡ 0 → (op : Operation L) → op ≢ Halt → attempt kind table setup fuel s op ≡ Err OutOfFuel
-  waiting fuel none op not =
-      ap (λ f. attempt kind table setup f s op) none ∙ ap (λ b. cond b (halted kind table setup s) (Err OutOfFuel)) (no_halt op not)
-
-  -- and with some it is tried
-  pub fuelled : (fuel : ℕ) → 0 < fuel → (op : Operation L) → op ≢ Halt → attempt kind table setup fuel s op ≡ tried kind table setup op s
-  fuelled zero some op not = absurd (omega arith)
-  fuelled (suc fuel) some op not = ap (λ b. cond b (halted kind table setup s) (tried kind table setup op s)) (no_halt op not)
+  -- and with some every operation is tried
+  pub fuelled : (fuel : ℕ) → fuel ≢ 0 → (op : Operation L) → attempt kind table setup fuel s op ≡ tried kind table setup op s
+  fuelled zero some op = absurd (some refl)
+  fuelled (suc fuel) some Halt = refl
+  fuelled (suc fuel) some op = refl
 
   pub steps_outside : (fuel : ℕ) → at_place setup.program s.pc None Some ≡ None → step kind table setup fuel s ≡ stopped OutsideProgram
   steps_outside fuel none = place_none _ _ setup.program s.pc none

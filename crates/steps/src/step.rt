@@ -5,7 +5,7 @@ ghost use Rattle.machine.specs.Steps.{contents, step, tried};
 ghost use Rattle.machine.specs.declared.answers.Part.TheVariants.{Program};
 ghost use Rattle.steps.specs.Operations.{Operates, Steps, with_memory, with_stack, with_log};
 ghost use Rattle.steps.specs.Places.{InProgram};
-ghost use Rattle.steps.specs.Steps.{Fetches, Halts, Waits};
+ghost use Rattle.steps.specs.Steps.{Fetches, Halts, Unfuelled, Waits};
 
 use crate::place::Place;
 use crate::registers::{Fetched, Registers};
@@ -38,7 +38,17 @@ impl<L: Label> Registers<L> {
         }
     }
 
-    // What an operation comes to that is tried, whatever the program is. (A halt is decided before it comes to this.)
+    // The end that an operation comes to without fuel: a halt is decided, and any other waits.
+    fn without_fuel(self, op: &Operation<L>) -> End
+        ensures { Unfuelled L.Label.kind op.now self result }
+    {
+        match op {
+            Operation::Halt => self.halted(),
+            _ => End::OutOfFuel,
+        }
+    }
+
+    // What an operation comes to that is tried, whatever the program is.
     #[inline(always)]
     fn operate<P: Policy<L>>(
         self,
@@ -110,11 +120,10 @@ impl<L: Label> Registers<L> {
         ensures fuelled { IsOk result → 0 < fuel }
     {
         let op = self.fetch(program)?;
-        match op {
-            Operation::Halt => Err(self.halted()),
-            _ if fuel == 0 => Err(End::OutOfFuel),
-            _ => self.operate(op, memory, stack, log, policy),
+        if fuel == 0 {
+            return Err(self.without_fuel(op));
         }
+        self.operate(op, memory, stack, log, policy)
     }
 
     /// One step with no fuel left, which does no operation: the end that it comes to. A halt is decided, and any other
@@ -124,13 +133,9 @@ impl<L: Label> Registers<L> {
         requires program_fits { length program.now ≤ most Program }
         ensures { Waits L.Label.kind program.now self result }
     {
-        let op = match self.fetch(program) {
-            Ok(op) => op,
-            Err(end) => return end,
-        };
-        match op {
-            Operation::Halt => self.halted(),
-            _ => End::OutOfFuel,
+        match self.fetch(program) {
+            Ok(op) => self.without_fuel(op),
+            Err(end) => end,
         }
     }
 }
