@@ -11,7 +11,10 @@ returns-in_err-op-clause-steps g c =
     let outside = rw c.in_err-op.was at c.fetch.ensures in
     let parts = contents c.args.program.now c.args.memory.now c.args.stack.now c.args.log.now in
     hands_on c.from_residual.ensures.1 unasked
-    (λ table true. steps_outside g.L.Label.kind table (made_of parts) (round c.args.self parts) c.args.fuel outside.0 ∙ ap Err (sym outside.1))
+    (λ table true.
+    steps_outside g.L.Label.kind table (made_of parts) (round c.args.self parts) c.args.fuel
+    outside.0
+    ∙ ap Err (sym outside.1))
 
 pub returns-in-Halt-clause-steps : goal.returns-in-Halt-clause-steps
 returns-in-Halt-clause-steps g c =
@@ -21,7 +24,8 @@ returns-in-Halt-clause-steps g c =
     let kind = g.L.Label.kind in
     ends unasked
     (λ table true. steps_on kind table (made_of parts) s c.args.fuel c.in_ok-op.op.now fetched.1
-    ∙ halting kind table (made_of parts) s c.args.fuel c.in_ok-op.op.now c.in-Halt.is ∙ c.halted.ensures table (made_of parts) parts)
+    ∙ halting kind table (made_of parts) s c.args.fuel c.in_ok-op.op.now c.in-Halt.is
+    ∙ c.halted.ensures table (made_of parts) parts)
 
 pub returns-in_default-clause-steps : goal.returns-in_default-clause-steps
 returns-in_default-clause-steps g c =
