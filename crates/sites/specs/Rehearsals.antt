@@ -16,4 +16,6 @@ Follows before after (Err end) = after ≡ before
 -- A rehearsal stands where the station does, if that runs a round.
 abbrev pub Rehearses : {L : Type 0} → Sited L → Option (Rehearsal L) → Type 0
 Rehearses site None = Running site.station → ⊥
-Rehearses site (Some r) = (site.setup.program ≡ r.parts.program.items) × (site.station ≡ running (round r.registers (held r.parts)))
+Rehearses site (Some r) =
+    (site.setup.program ≡ r.parts.program.items)
+    × (site.station ≡ running (round r.registers (held r.parts)))
