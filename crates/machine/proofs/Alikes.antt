@@ -37,9 +37,9 @@ module _ {L : Type 0} (kind : Kind L) (o : L) where
   -- what is worked out of an alike number, with alike labels that cover its label, is alike
   pub alike_one : (f : ℤ → ℤ) {v w : Labelled L} {r s : L} → Alike kind o v w → AlikeLabels kind o r s
       → Covers kind o v.label r → Covers kind o w.label s → Alike kind o (f v.value at r) (f w.value at s)
-  alike_one f (inl e) (inl d) cv cw = inl (ap₂ (λ (x : Labelled L) l. f x.value at l) e d)
-  alike_one f (inr h) (inl d) cv cw = inr (cv h.0, cw h.1)
-  alike_one f a (inr h) cv cw = inr h
+  alike_one f (inl e) (inl d) v_covers w_covers = inl (ap₂ (λ (x : Labelled L) l. f x.value at l) e d)
+  alike_one f (inr h) (inl d) v_covers w_covers = inr (v_covers h.0, w_covers h.1)
+  alike_one f a (inr h) v_covers w_covers = inr h
 
   -- a copy of it among them
   pub alike_copy : {v w : Labelled L} {r s : L} → Alike kind o v w → AlikeLabels kind o r s
@@ -47,13 +47,15 @@ module _ {L : Type 0} (kind : Kind L) (o : L) where
   alike_copy = alike_one (λ n. n)
 
   -- and so is what is worked out of two alike numbers
-  pub alike_two : (f : ℤ → ℤ → ℤ) {v w x y : Labelled L} {r s : L} → Alike kind o v w → Alike kind o x y → AlikeLabels kind o r s
+  pub alike_two : (f : ℤ → ℤ → ℤ) {v w x y : Labelled L} {r s : L} → Alike kind o v w
+      → Alike kind o x y → AlikeLabels kind o r s
       → Covers kind o v.label r → Covers kind o w.label s → Covers kind o x.label r → Covers kind o y.label s
       → Alike kind o (f v.value x.value at r) (f w.value y.value at s)
-  alike_two f {v} {w} {x} {y} {r} {s} (inl e) b t cv cw cx cy =
-      subst (λ (u : Labelled L). Alike kind o (f v.value x.value at r) (f u.value y.value at s)) e (alike_one (f v.value) b t cx cy)
-  alike_two f (inr h) b (inl d) cv cw cx cy = inr (cv h.0, cw h.1)
-  alike_two f (inr h) b (inr k) cv cw cx cy = inr k
+  alike_two f {v} {w} {x} {y} {r} {s} (inl e) b t v_covers w_covers x_covers y_covers =
+      subst (λ (u : Labelled L). Alike kind o (f v.value x.value at r) (f u.value y.value at s)) e
+      (alike_one (f v.value) b t x_covers y_covers)
+  alike_two f (inr h) b (inl d) v_covers w_covers x_covers y_covers = inr (v_covers h.0, w_covers h.1)
+  alike_two f (inr h) b (inr k) v_covers w_covers x_covers y_covers = inr k
 
   abbrev pub Memories : List (Labelled L) → List (Labelled L) → Type 0
   Memories = Each (Alike kind o)
@@ -70,7 +72,9 @@ module _ {L : Type 0} (kind : Kind L) (o : L) where
   -- A hidden number in place of a hidden one leaves an alike memory.
   pub overwritten : (m : List (Labelled L)) (z : ℤ) (v w : Labelled L) → set_place m z v ≡ m → Hidden kind o v.label
       → Hidden kind o w.label → Memories m (set_place m z w)
-  overwritten m z v w e hv hw = subst (λ (n : List (Labelled L)). Memories n (set_place m z w)) e (each_set_place z refl (memories_refl m) (inr (hv, hw)))
+  overwritten m z v w e hv hw =
+      subst (λ (n : List (Labelled L)). Memories n (set_place m z w)) e
+      (each_set_place z refl (memories_refl m) (inr (hv, hw)))
 
   -- Stack entries are alike if they are alike numbers or the same frame.
   pub data AlikeEntry : Entry L → Entry L → Type 0 where
@@ -97,7 +101,8 @@ module _ {L : Type 0} (kind : Kind L) (o : L) where
   crops none = none
   crops (more (alike_number h) r) = crops r
   crops (more {xs = s} {ys = t} (same_frame {f} {g} e) r) =
-      subst (λ (h : ReturnFrame L). Stacks (crop (Frame f ∷ s)) (crop (Frame h ∷ t))) e (tested (kind.below f.label o) r (crops r))
+      subst (λ (h : ReturnFrame L). Stacks (crop (Frame f ∷ s)) (crop (Frame h ∷ t))) e
+      (tested (kind.below f.label o) r (crops r))
     where
       tested : (b : Bool) {c d : List (Entry L)} → Stacks s t → Stacks c d
           → Stacks (cond b (Frame f ∷ s) c) (cond b (Frame f ∷ t) d)

@@ -1,6 +1,9 @@
--- What a step comes to at all, under any table. An operation is done only with fuel and only if the table allows some request; commands
--- are only added, the memory stays as long, and stack and log hold no more than their sizes if they did before.
-use Rattle.std.proofs.Common.{◌≡◌, ℕ, suc, ◌+◌, ◌≤◌, Bool, true, false, ltb, List, [], ◌∷◌, length, ℤ, pos, negsuc, ◌+ℤ◌, Some, None, Option, refl, ap, ◌∙◌, arith, length-set}
+-- What a step comes to at all, under any table.
+--
+-- An operation is done only with fuel and only if the table allows some request; commands are only added, the
+-- memory stays as long, and stack and log hold no more than their sizes if they did before.
+use Rattle.std.proofs.Common.{◌≡◌, ℕ, suc, ◌+◌, ◌≤◌, Bool, true, false, ltb, List, [], ◌∷◌, length, ℤ}
+use Rattle.std.proofs.Common.{pos, negsuc, ◌+ℤ◌, Some, None, Option, refl, ap, ◌∙◌, arith, length-set}
 use Rattle.std.proofs.lemmas.List.{length-append}
 use Rattle.std.proofs.lemmas.Bool.{ltb-true}
 use Rattle.labels.specs.Kind.{Kind}
@@ -9,7 +12,8 @@ use Rattle.rules.specs.declared.Opcode.{Opcode}
 use Rattle.rules.specs.declared.Request.{Request}
 use Rattle.rules.specs.declared.Verdict.{Verdict}
 use Rattle.machine.specs.Lists.{Begins}
-use Rattle.machine.specs.Steps.{◌at◌, Setup, Kept, Round, Outcome, finished, later, stopped, done, set_place, numbers_onto, goto, asking, arithmetic, return_to, tried, step}
+use Rattle.machine.specs.Steps.{◌at◌, Setup, Kept, Round, Outcome, finished, later, stopped, done}
+use Rattle.machine.specs.Steps.{set_place, numbers_onto, goto, asking, arithmetic, return_to, tried, step}
 use Rattle.machine.specs.declared.answers.Stop.{Stop}
 use Rattle.machine.specs.declared.answers.Stop.TheVariants.{StackFull, OutsideMemory, LogFull}
 use Rattle.machine.specs.declared.parts.Labelled.{Labelled}
@@ -17,10 +21,12 @@ use Rattle.machine.specs.declared.parts.Frame.{Frame as ReturnFrame}
 use Rattle.machine.specs.declared.parts.Entry.{Entry}
 use Rattle.machine.specs.declared.parts.Entry.TheVariants.{Frame}
 use Rattle.machine.specs.declared.parts.Operation.{Operation}
-use Rattle.machine.specs.declared.parts.Operation.TheVariants.{Push, Pop, Noop, Add, Sub, Less, Load, Store, Jump, Bnz, Call, Return, Output, Halt}
+use Rattle.machine.specs.declared.parts.Operation.TheVariants.{Push, Pop, Noop, Add, Sub, Less, Load, Store}
+use Rattle.machine.specs.declared.parts.Operation.TheVariants.{Jump, Bnz, Call, Return, Output, Halt}
 use Rattle.machine.proofs.Lists.{begins_refl, begins_append, begins_trans}
 use Rattle.machine.proofs.Flows.{On, forbids, allows}
-use Rattle.machine.proofs.Outcomes.{AtStops, provided_any, taking_any, taking_all_any, nearest_frame_any, at_place_any, ruled_any, halted_any, step_any}
+use Rattle.machine.proofs.Outcomes.{AtStops, provided_any, taking_any, taking_all_any}
+use Rattle.machine.proofs.Outcomes.{nearest_frame_any, at_place_any, ruled_any, halted_any, step_any}
 
 module _ {L : Type 0} where
   -- the commands go on from where they were, and the memory is as long
@@ -81,7 +87,14 @@ module _ {L : Type 0} (kind : Kind L) (table : Table L) (setup : Setup L) (fuel 
   module _ (n : ℕ) (some : fuel ≡ suc n) where
     -- an operation that leaves no more on the stack, and memory and commands as they were
     plain : {p : ℤ} {N : L} {es : List (Entry L)} → length es ≤ length s.stack → Allows table → Fine (goto s p N es)
-    plain h allowed = to_done some (record { allowed = allowed; follows = follows_refl s.kept; depth = λ fits. omega arith; room = λ fits. fits })
+    plain h allowed =
+        to_done some
+        (record {
+          allowed = allowed;
+          follows = follows_refl s.kept;
+          depth = λ fits. omega arith;
+          room = λ fits. fits;
+        })
 
     arithmetic_comes_to : (op : Opcode) (f : ℤ → ℤ → ℤ) → Fine (arithmetic kind table setup op f s)
     arithmetic_comes_to op f =
@@ -105,7 +118,9 @@ module _ {L : Type 0} (kind : Kind L) (table : Table L) (setup : Setup L) (fuel 
           depth = λ fits. omega (arith, ltb-true (length s.stack) setup.sizes.stack free);
           room = λ fits. fits;
         })
-    tried_comes_to Pop = taking_any stops s.stack λ a es e. asking_comes_to _ _ _ _ λ N R. plain (omega (arith, ap length e))
+    tried_comes_to Pop =
+        taking_any stops s.stack
+        λ a es e. asking_comes_to _ _ _ _ λ N R. plain (omega (arith, ap length e))
     tried_comes_to Noop = asking_comes_to _ _ _ _ λ N R. plain (omega arith)
     tried_comes_to Add = arithmetic_comes_to _ _
     tried_comes_to Sub = arithmetic_comes_to _ _
@@ -126,15 +141,22 @@ module _ {L : Type 0} (kind : Kind L) (table : Table L) (setup : Setup L) (fuel 
           depth = λ fits. omega (arith, ap length e, ap length d);
           room = λ fits. fits;
         })
-    tried_comes_to Jump = taking_any stops s.stack λ a es e. asking_comes_to _ _ _ _ λ N R. plain (omega (arith, ap length e))
-    tried_comes_to (Bnz k) = taking_any stops s.stack λ a es e. asking_comes_to _ _ _ _ λ N R. plain (omega (arith, ap length e))
+    tried_comes_to Jump =
+        taking_any stops s.stack
+        λ a es e. asking_comes_to _ _ _ _ λ N R. plain (omega (arith, ap length e))
+    tried_comes_to (Bnz k) =
+        taking_any stops s.stack
+        λ a es e. asking_comes_to _ _ _ _ λ N R. plain (omega (arith, ap length e))
     tried_comes_to (Call k due) =
         taking_any stops s.stack λ a es e.
         taking_all_any stops k es λ xs us d.
         asking_comes_to _ _ _ _ λ N R.
         let frame : Entry L = Frame (record { place = s.pc +ℤ pos 1; due = due; label = R }) in
         plain (omega (arith, ap length e, ap length d, onto_length xs us, onto_length xs (frame ∷ us)))
-    tried_comes_to Return = nearest_frame_any stops s.stack λ xs f rest e. return_comes_to f.due f rest (omega (arith, ap length e, onto_length xs (Frame f ∷ rest)))
+    tried_comes_to Return =
+        nearest_frame_any stops s.stack
+        λ xs f rest e.
+        return_comes_to f.due f rest (omega (arith, ap length e, onto_length xs (Frame f ∷ rest)))
     tried_comes_to Output =
         taking_any stops s.stack λ a es e.
         provided_any stops LogFull (ltb (length s.kept.commands) setup.sizes.log) λ free.
@@ -143,7 +165,13 @@ module _ {L : Type 0} (kind : Kind L) (table : Table L) (setup : Setup L) (fuel 
           allowed = allowed;
           follows = record { grows = begins_append s.kept.commands _; as_long = refl };
           depth = λ fits. omega (arith, ap length e);
-          room = λ fits. omega (arith, ltb-true (length s.kept.commands) setup.sizes.log free, length-append s.kept.commands ((a.value at R) ∷ []));
+          room =
+              λ fits.
+              omega (
+                arith,
+                ltb-true (length s.kept.commands) setup.sizes.log free,
+                length-append s.kept.commands ((a.value at R) ∷ []),
+              );
         })
     tried_comes_to Halt = halted_any stops kind table setup s (λ _. to_finish)
 

@@ -1,5 +1,6 @@
 -- The commands that an observer at o sees.
-use Rattle.std.proofs.Common.{◌≡◌, Bool, true, false, cond, List, [], ◌∷◌, ◌++◌, sym, refl, ap, ◌∙◌, subst, ap₂, inl, inr, append-nil}
+use Rattle.std.proofs.Common.{◌≡◌, Bool, true, false, cond, List, [], ◌∷◌, ◌++◌}
+use Rattle.std.proofs.Common.{sym, refl, ap, ◌∙◌, subst, ap₂, inl, inr, append-nil}
 use Rattle.labels.specs.Kind.{Kind}
 use Rattle.machine.specs.Lists.{Begins, ends, goes_on}
 use Rattle.machine.specs.Observer.{Alike, visible}
@@ -23,7 +24,8 @@ module _ {L : Type 0} (kind : Kind L) (o : L) where
   pub visible_begins : {c d : List (Labelled L)} → Begins ◌≡◌ c d → Begins ◌≡◌ (visible kind o c) (visible kind o d)
   visible_begins ends = ends
   visible_begins (goes_on {a} {b} {xs} {ys} e h) =
-      subst (λ w. Begins ◌≡◌ (visible kind o (a ∷ xs)) (visible kind o (w ∷ ys))) e (tested (kind.below a.label o) (visible_begins h))
+      subst (λ w. Begins ◌≡◌ (visible kind o (a ∷ xs)) (visible kind o (w ∷ ys))) e
+      (tested (kind.below a.label o) (visible_begins h))
     where
       tested : (b : Bool) {c d : List (Labelled L)} → Begins ◌≡◌ c d → Begins ◌≡◌ (cond b (a ∷ c) c) (cond b (a ∷ d) d)
       tested true k = goes_on refl k
@@ -34,12 +36,16 @@ module _ {L : Type 0} (kind : Kind L) (o : L) where
 
   -- a hidden command more looks the same
   pub shown_hidden : (c : List (Labelled L)) (v : Labelled L) → Hidden kind o v.label → Shown c (c ++ v ∷ [])
-  shown_hidden c v h = sym (visible_append c (v ∷ []) ∙ ap (λ r. visible kind o c ++ r) (visible_hidden v h) ∙ append-nil (visible kind o c))
+  shown_hidden c v h =
+      sym
+      (visible_append c (v ∷ []) ∙ ap (λ r. visible kind o c ++ r) (visible_hidden v h)
+      ∙ append-nil (visible kind o c))
 
   -- and so do alike commands more
   pub shown_alike : (c d : List (Labelled L)) {v w : Labelled L} → Shown c d → Alike kind o v w
       → Shown (c ++ v ∷ []) (d ++ w ∷ [])
-  shown_alike c d {v} {w} e a = visible_append c (v ∷ []) ∙ ap₂ (λ x y. x ++ y) e (last a) ∙ sym (visible_append d (w ∷ []))
+  shown_alike c d {v} {w} e a =
+      visible_append c (v ∷ []) ∙ ap₂ (λ x y. x ++ y) e (last a) ∙ sym (visible_append d (w ∷ []))
     where
       last : Alike kind o v w → Shown (v ∷ []) (w ∷ [])
       last (inl f) = ap (λ x. visible kind o (x ∷ [])) f

@@ -1,10 +1,12 @@
 -- What an enter changes, and that a refused call changes nothing.
-use Rattle.std.proofs.Common.{◌≡◌, ℕ, zero, suc, Bool, true, cond, List, [], ◌∷◌, set, Some, None, Option, sym, refl, ap, ◌∙◌, subst}
+use Rattle.std.proofs.Common.{◌≡◌, ℕ, zero, suc, Bool, true, cond, List, [], ◌∷◌}
+use Rattle.std.proofs.Common.{set, Some, None, Option, sym, refl, ap, ◌∙◌, subst}
 use Rattle.labels.specs.Kind.{Kind}
 use Rattle.rules.specs.Tables.{Table}
 use Rattle.machine.specs.Laws.{RefusedChangesNothing, EnteredIsShown}
-use Rattle.machine.specs.Calls.{LentCall, misfit}
-use Rattle.machine.specs.Stations.{Station, idle, running, shut, Answer, granted, shows, took, found, refused, fitting, memory_of, entered, looked, reply, effect}
+use Rattle.machine.specs.Calls.{misfit}
+use Rattle.machine.specs.Stations.{Station, idle, running, shut, Answer, granted, shows}
+use Rattle.machine.specs.Stations.{refused, fitting, memory_of, entered, looked, reply, effect}
 use Rattle.machine.specs.Steps.{Setup, Kept, element}
 use Rattle.machine.specs.declared.answers.Part.{Part}
 use Rattle.machine.specs.declared.answers.Refusal.{Refusal}
@@ -29,7 +31,8 @@ module _ {L : Type 0} where
   outside (x ∷ m) (suc cell) v h = ap (λ r. x ∷ r) (outside m cell v h)
 
 module _ {L : Type 0} (kind : Kind L) where
-  refused_effect : (setup : Setup L) (table : Table L) (st : Station L) (call : Call L) → Refuses (reply kind setup table st call)
+  refused_effect : (setup : Setup L) (table : Table L) (st : Station L) (call : Call L)
+      → Refuses (reply kind setup table st call)
       → effect kind setup table st call ≡ st
   refused_effect setup table (idle kept) (Enter cell v) h =
       ap (λ m. idle (record { memory = m; commands = kept.commands })) (outside kept.memory cell v h)
@@ -40,7 +43,9 @@ module _ {L : Type 0} (kind : Kind L) where
   pub refused_changes_nothing : RefusedChangesNothing kind
   refused_changes_nothing setup st made why e = fits (misfit setup.sizes made.call made.lens) (refuses e)
     where
-      fits : (x : Option Part) → Refuses (fitting x (λ part. refused (Length part)) (reply kind setup made.table st made.call))
+      fits : (x : Option Part)
+          → Refuses
+          (fitting x (λ part. refused (Length part)) (reply kind setup made.table st made.call))
           → fitting x (λ _. st) (effect kind setup made.table st made.call) ≡ st
       fits None h = refused_effect setup made.table st made.call h
       fits (Some part) h = refl
@@ -52,7 +57,8 @@ module _ {L : Type 0} where
 
   -- a cell that was written holds what was written, and the others what they held
   module _ (then : Labelled L → Answer L) where
-    written : (m : List (Labelled L)) (cell : ℕ) (v : Labelled L) → Grants (element m cell (refused Cell) (λ _. granted))
+    written : (m : List (Labelled L)) (cell : ℕ) (v : Labelled L)
+        → Grants (element m cell (refused Cell) (λ _. granted))
         → element (set m cell v) cell (refused Cell) then ≡ then v
     written [] cell v g = absurd g
     written (x ∷ m) zero v g = refl
@@ -71,15 +77,26 @@ module _ {L : Type 0} (kind : Kind L) where
   refusing x = fitting x (λ part. refused (Length part))
 
   shown_there : (x : Option Part) (kept : Kept L) (cell : ℕ) (v : Labelled L) (clearance : L)
-      → Grants (refusing x (element kept.memory cell (refused Cell) (λ _. granted))) → kind.below v.label clearance ≡ true
-      → refusing x (element (memory_of (fitting x (λ _. idle kept) (entered cell v (idle kept)))) cell (refused Cell) (looked kind clearance)) ≡ shows v
-  shown_there None kept cell v clearance g low = written (looked kind clearance) kept.memory cell v g ∙ ap (λ (b : Bool). cond b (shows v) (refused Clearance)) low
+      → Grants (refusing x (element kept.memory cell (refused Cell) (λ _. granted)))
+      → kind.below v.label clearance ≡ true
+      → refusing x
+      (element (memory_of (fitting x (λ _. idle kept) (entered cell v (idle kept)))) cell
+      (refused Cell) (looked kind clearance))
+      ≡ shows v
+  shown_there None kept cell v clearance g low =
+      written (looked kind clearance) kept.memory cell v g
+      ∙ ap (λ (b : Bool). cond b (shows v) (refused Clearance)) low
   shown_there (Some part) kept cell v clearance g low = absurd g
 
-  shown_elsewhere : (x : Option Part) (st : Station L) (cell other : ℕ) (v : Labelled L) (clearance : L) → (other ≡ cell → ⊥)
-      → refusing x (element (memory_of (fitting x (λ _. st) (entered cell v st))) other (refused Cell) (looked kind clearance))
+  shown_elsewhere : (x : Option Part) (st : Station L) (cell other : ℕ) (v : Labelled L)
+      (clearance : L)
+      → (other ≡ cell → ⊥)
+      → refusing x
+      (element (memory_of (fitting x (λ _. st) (entered cell v st))) other (refused Cell)
+      (looked kind clearance))
       ≡ refusing x (element (memory_of st) other (refused Cell) (looked kind clearance))
-  shown_elsewhere None (idle kept) cell other v clearance h = unwritten (looked kind clearance) kept.memory cell other v h
+  shown_elsewhere None (idle kept) cell other v clearance h =
+      unwritten (looked kind clearance) kept.memory cell other v h
   shown_elsewhere None (running s) cell other v clearance h = refl
   shown_elsewhere None (shut stop place kept) cell other v clearance h = refl
   shown_elsewhere (Some part) st cell other v clearance h = refl

@@ -1,9 +1,11 @@
 -- The question for the next command finds the first one from the place on that is at or below the clearance.
-use Rattle.std.proofs.Common.{◌≡◌, ℕ, zero, suc, ◌+◌, ◌<◌, ◌≤◌, Bool, true, false, cond, List, [], ◌∷◌, drop, Some, None, Option, refl, subst, arith}
+use Rattle.std.proofs.Common.{◌≡◌, ℕ, zero, suc, ◌+◌, ◌<◌, ◌≤◌, Bool, true, false, cond}
+use Rattle.std.proofs.Common.{List, [], ◌∷◌, drop, Some, None, Option, refl, subst, arith}
 use Rattle.labels.specs.Kind.{Kind}
 use Rattle.machine.specs.Laws.{command_at, First, NextIsFirst}
 use Rattle.machine.specs.Calls.{misfit}
-use Rattle.machine.specs.Stations.{Answer, granted, shows, took, found, refused, fitting, commands_of, first_below, reply}
+use Rattle.machine.specs.Stations.{Answer, found, refused}
+use Rattle.machine.specs.Stations.{fitting, commands_of, first_below, reply}
 use Rattle.machine.specs.declared.answers.Part.{Part}
 use Rattle.machine.specs.declared.answers.Refusal.TheVariants.{Length}
 use Rattle.machine.specs.declared.calls.Call.TheVariants.{NextCommand}
@@ -20,11 +22,15 @@ module _ {L : Type 0} (kind : Kind L) (clearance : L) where
   data Found (xs : List (Labelled L)) (from start : ℕ) : Option ℕ → Type 0 where
     no_place : ((i : ℕ) (v : Labelled L) → from ≤ i → command_at kind xs i ≡ Some v → High v) → Found xs from start None
     one_place : {n : ℕ} (i : ℕ) (v : Labelled L) → n ≡ start + i → from ≤ i → command_at kind xs i ≡ Some v → Low v
-        → ((j : ℕ) (w : Labelled L) → from ≤ j → j < i → command_at kind xs j ≡ Some w → High w) → Found xs from start (Some n)
+        → ((j : ℕ) (w : Labelled L) → from ≤ j → j < i → command_at kind xs j ≡ Some w → High w)
+        → Found xs from start (Some n)
 
   -- a label that is known of the command at a place
   only : {x v : Labelled L} → High x → Some x ≡ Some v → High v
-  only {x} {v} h e = subst (λ (y : Option (Labelled L)). elim y as (λ _. Type 0) [ None ↦ Unit {0} | Some w ↦ High w ]) e h
+  only {x} {v} h e =
+      subst
+      (λ (y : Option (Labelled L)). elim y as (λ _. Type 0) [ None ↦ Unit {0} | Some w ↦ High w ]) e
+      h
 
   -- one element more in front, which is not asked for or is not low
   in_front : {x : Labelled L} {xs : List (Labelled L)} {from start : ℕ} (from' : ℕ) {found : Option ℕ}
@@ -36,7 +42,8 @@ module _ {L : Type 0} (kind : Kind L) (clearance : L) where
       later : (i : ℕ) (v : Labelled L) → from' ≤ i → command_at kind (x ∷ xs) i ≡ Some v → High v
       later zero v h e = head v h e
       later (suc i) v h e = none i v (shift i h) e
-  in_front {x} {xs} from' head near shift (one_place i v n h c is before) = one_place (suc i) v (omega arith) (omega arith) c is earlier
+  in_front {x} {xs} from' head near shift (one_place i v n h c is before) =
+      one_place (suc i) v (omega arith) (omega arith) c is earlier
     where
       earlier : (j : ℕ) (w : Labelled L) → from' ≤ j → j < suc i → command_at kind (x ∷ xs) j ≡ Some w → High w
       earlier zero w g k e = head w g e
@@ -56,14 +63,24 @@ module _ {L : Type 0} (kind : Kind L) (clearance : L) where
       → Found xs from start (first_below kind clearance n (drop from xs))
   searched [] zero start n e = no_command
   searched [] (suc from) start n e = no_command
-  searched (x ∷ xs) zero start n e = tested (kind.below x.label clearance) refl e (searched xs zero (suc start) (suc n) (omega arith))
-  searched (x ∷ xs) (suc from) start n e = in_front (suc from) (λ v h _. absurd (omega arith)) (omega arith) (λ i h. omega arith) (searched xs from (suc start) n (omega arith))
+  searched (x ∷ xs) zero start n e =
+      tested (kind.below x.label clearance) refl e
+      (searched xs zero (suc start) (suc n) (omega arith))
+  searched (x ∷ xs) (suc from) start n e =
+      in_front (suc from) (λ v h _. absurd (omega arith)) (omega arith) (λ i h. omega arith)
+      (searched xs from (suc start) n (omega arith))
 
-  first : {xs : List (Labelled L)} {from : ℕ} {found : Option ℕ} → Found xs from 0 found → First kind xs from clearance found
+  first : {xs : List (Labelled L)} {from : ℕ} {found : Option ℕ} → Found xs from 0 found
+      → First kind xs from clearance found
   first (no_place none) = none
   first {xs} {from} (one_place {n} i v e h c low before) =
       let at : i ≡ n = omega arith in
-      subst (λ (n : ℕ). First kind xs from clearance (Some n)) at (record { from_on = h; there = (v, c, low); none_before = before })
+      subst
+      (λ (n : ℕ). First kind xs from clearance (Some n)) at (record {
+        from_on = h;
+        there = (v, c, low);
+        none_before = before;
+      })
 
 pub next_is_first : {L : Type 0} (kind : Kind L) → NextIsFirst kind
 next_is_first {L} kind setup st lens table from clearance next e =

@@ -1,9 +1,10 @@
--- What the rows of a table must do with labels so that an observer at o learns nothing hidden, and that the published rows do it.
+-- What the rows of a table must do with labels to keep what is hidden from an observer; the published rows do it.
 use Rattle.std.proofs.Common.{◌≡◌, Bool, true, false, cond, None, Option, refl, inl}
 use Rattle.labels.specs.Kind.{Kind, Lawful}
 use Rattle.rules.specs.Tables.{Table, request, verdict, published}
 use Rattle.rules.specs.declared.Opcode.{Opcode}
-use Rattle.rules.specs.declared.Opcode.TheVariants.{Push, Pop, Noop, Add, Sub, Less, Load, Store, Jump, Bnz, Call, Return, Output}
+use Rattle.rules.specs.declared.Opcode.TheVariants.{Push, Pop, Noop, Add, Sub, Less, Load}
+use Rattle.rules.specs.declared.Opcode.TheVariants.{Store, Jump, Bnz, Call, Return, Output}
 use Rattle.rules.specs.declared.Verdict.{Verdict}
 use Rattle.machine.proofs.Hiding.{Hidden, Covers, AlikeLabels, upward, join_left, join_right, join_alike}
 
@@ -29,7 +30,8 @@ module _ {L : Type 0} (kind : Kind L) (o : L) where
   abbrev pub BranchFlow : L → L → L → L → Type 0
   BranchFlow p a N R = record { p_pc : Covered p N; a_pc : Covered a N }
 
-  -- Where each operation must carry the labels P, A, B and C that it is asked with: to the program counter, to the result, to the cell.
+  -- Where each operation must carry the labels P, A, B and C that it is asked with: to the program counter, to
+  -- the result, to the cell.
   abbrev pub Flow : Opcode → L → L → L → L → L → L → Type 0
   Flow Push p a b c N R = record { p_pc : Covered p N; a_result : Covered a R }
   Flow Pop p a b c N R = Covered p N
@@ -112,32 +114,56 @@ module _ {L : Type 0} {kind : Kind L} (laws : Lawful kind) (o : L) where
   }
   published_flows Jump p a b c = branch_flows p a
   published_flows Bnz p a b c = branch_flows p a
-  published_flows Call p a b c = allows (record { p_pc = join_right laws o a p; a_pc = join_left laws o a p; p_frame = refl })
-  published_flows Return p a b c = allows (record { frame_pc = refl; b_result = join_left laws o b p; p_result = join_right laws o b p })
-  published_flows Output p a b c = allows (record { p_pc = same; a_result = join_left laws o a p; p_result = join_right laws o a p })
+  published_flows Call p a b c =
+      allows (record { p_pc = join_right laws o a p; a_pc = join_left laws o a p; p_frame = refl })
+  published_flows Return p a b c =
+      allows
+      (record {
+        frame_pc = refl;
+        b_result = join_left laws o b p;
+        p_result = join_right laws o b p;
+      })
+  published_flows Output p a b c =
+      allows
+      (record { p_pc = same; a_result = join_left laws o a p; p_result = join_right laws o a p })
 
   published_alike : (op : Opcode) (p : L) {a a' b b' c c' : L} → AlikeLabels kind o a a' → AlikeLabels kind o b b'
       → AlikeLabels kind o c c'
       → Both (AlikeVerdicts kind o) (published kind (request op p a b c)) (published kind (request op p a' b' c'))
-  published_alike Push p ta tb tc = both_allow (record { pc = inl refl; result = ta })
-  published_alike Pop p ta tb tc = both_allow (record { pc = inl refl; result = inl refl })
-  published_alike Noop p ta tb tc = both_allow (record { pc = inl refl; result = inl refl })
-  published_alike Add p ta tb tc = both_allow (record { pc = inl refl; result = join_alike laws o ta tb })
-  published_alike Sub p ta tb tc = both_allow (record { pc = inl refl; result = join_alike laws o ta tb })
-  published_alike Less p ta tb tc = both_allow (record { pc = inl refl; result = join_alike laws o ta tb })
-  published_alike Load p ta tb tc = both_allow (record { pc = inl refl; result = join_alike laws o ta tb })
-  published_alike Store p {a} {a'} {b} {b'} {c} {c'} ta tb tc =
-      if_both_allowed (below (join a p) c) (below (join a' p) c') _ _ _ _ (record { pc = inl refl; result = join_alike laws o (join_alike laws o ta tb) (inl refl) })
-  published_alike Jump p ta tb tc = both_allow (record { pc = join_alike laws o ta (inl refl); result = inl refl })
-  published_alike Bnz p ta tb tc = both_allow (record { pc = join_alike laws o ta (inl refl); result = inl refl })
-  published_alike Call p ta tb tc = both_allow (record { pc = join_alike laws o ta (inl refl); result = inl refl })
-  published_alike Return p ta tb tc = both_allow (record { pc = ta; result = join_alike laws o tb (inl refl) })
-  published_alike Output p ta tb tc = both_allow (record { pc = inl refl; result = join_alike laws o ta (inl refl) })
+  published_alike Push p a_alike b_alike c_alike = both_allow (record { pc = inl refl; result = a_alike })
+  published_alike Pop p a_alike b_alike c_alike = both_allow (record { pc = inl refl; result = inl refl })
+  published_alike Noop p a_alike b_alike c_alike = both_allow (record { pc = inl refl; result = inl refl })
+  published_alike Add p a_alike b_alike c_alike =
+      both_allow (record { pc = inl refl; result = join_alike laws o a_alike b_alike })
+  published_alike Sub p a_alike b_alike c_alike =
+      both_allow (record { pc = inl refl; result = join_alike laws o a_alike b_alike })
+  published_alike Less p a_alike b_alike c_alike =
+      both_allow (record { pc = inl refl; result = join_alike laws o a_alike b_alike })
+  published_alike Load p a_alike b_alike c_alike =
+      both_allow (record { pc = inl refl; result = join_alike laws o a_alike b_alike })
+  published_alike Store p {a} {a'} {b} {b'} {c} {c'} a_alike b_alike c_alike =
+      if_both_allowed (below (join a p) c) (below (join a' p) c') _ _ _ _
+      (record {
+        pc = inl refl;
+        result = join_alike laws o (join_alike laws o a_alike b_alike) (inl refl);
+      })
+  published_alike Jump p a_alike b_alike c_alike =
+      both_allow (record { pc = join_alike laws o a_alike (inl refl); result = inl refl })
+  published_alike Bnz p a_alike b_alike c_alike =
+      both_allow (record { pc = join_alike laws o a_alike (inl refl); result = inl refl })
+  published_alike Call p a_alike b_alike c_alike =
+      both_allow (record { pc = join_alike laws o a_alike (inl refl); result = inl refl })
+  published_alike Return p a_alike b_alike c_alike =
+      both_allow (record { pc = a_alike; result = join_alike laws o b_alike (inl refl) })
+  published_alike Output p a_alike b_alike c_alike =
+      both_allow (record { pc = inl refl; result = join_alike laws o a_alike (inl refl) })
 
   pub published_secure : Secure kind o (published kind)
   published_secure = record {
     flows = published_flows;
     alike = published_alike;
     loads = λ p h h'. both_allow (inl refl);
-    stores = λ p {a} {a'} {b} {b'} {c} {c'} h h'. if_both_allowed (below (join a p) c) (below (join a' p) c') _ _ _ _ (inl refl);
+    stores =
+        λ p {a} {a'} {b} {b'} {c} {c'} h h'.
+        if_both_allowed (below (join a p) c) (below (join a' p) c') _ _ _ _ (inl refl);
   }

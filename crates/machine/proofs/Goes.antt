@@ -1,5 +1,6 @@
 -- A go and its fuel: how many steps it takes, and that a go and then another are one go with the fuel of both.
-use Rattle.std.proofs.Common.{◌≡◌, ℕ, zero, suc, ◌+◌, ◌≤◌, Bool, true, false, cond, List, [], ◌∷◌, ℤ, pos, negsuc, refl, ap, subst, arith}
+use Rattle.std.proofs.Common.{◌≡◌, ℕ, zero, suc, ◌+◌, ◌≤◌, Bool, true, false, cond}
+use Rattle.std.proofs.Common.{List, [], ◌∷◌, ℤ, pos, negsuc, refl, ap, subst, arith}
 use Rattle.labels.specs.Kind.{Kind}
 use Rattle.rules.specs.Tables.{Table}
 use Rattle.machine.specs.Laws.{GoesAddUp, FuelSpent}
@@ -26,13 +27,15 @@ module _ {L : Type 0} (kind : Kind L) (table : Table L) (setup : Setup L) where
     attempt_waits false x y = waits
 
     element_waits : (ops : List (Operation L)) (i : ℕ)
-        → Waits (element ops i (stopped OutsideProgram) (attempt kind table setup 0 s)) (element ops i (stopped OutsideProgram) (attempt kind table setup fuel s))
+        → Waits (element ops i (stopped OutsideProgram) (attempt kind table setup 0 s))
+        (element ops i (stopped OutsideProgram) (attempt kind table setup fuel s))
     element_waits [] i = decided
     element_waits (op ∷ ops) zero = attempt_waits (halts op) _ _
     element_waits (op ∷ ops) (suc i) = element_waits ops i
 
     place_waits : (z : ℤ)
-        → Waits (at_place setup.program z (stopped OutsideProgram) (attempt kind table setup 0 s)) (at_place setup.program z (stopped OutsideProgram) (attempt kind table setup fuel s))
+        → Waits (at_place setup.program z (stopped OutsideProgram) (attempt kind table setup 0 s))
+        (at_place setup.program z (stopped OutsideProgram) (attempt kind table setup fuel s))
     place_waits (pos i) = element_waits setup.program i
     place_waits (negsuc i) = decided
 
@@ -52,7 +55,9 @@ module _ {L : Type 0} (kind : Kind L) (table : Table L) (setup : Setup L) where
   -- what a go without fuel decides, a go with fuel decides at once
   none_adds : (g : ℕ) (s : Round L) {x y : Outcome L} → Waits x y → ComesTo table setup 0 s x
       → run_steps kind setup table g s ≡ settled s y (after_first g)
-      → Adds (settled s x (after_first 0)) (gone kind setup table g (settled s x (after_first 0)).station) (run_steps kind setup table g s)
+      → Adds (settled s x (after_first 0))
+      (gone kind setup table g (settled s x (after_first 0)).station)
+      (run_steps kind setup table g s)
   none_adds g s waits k e = record { station = refl; steps = omega arith }
   none_adds g s decided to_finish e = record { station = ap (λ x. x.station) e; steps = ap (λ x. x.steps) e }
   none_adds g s decided to_stop e = record { station = ap (λ x. x.station) e; steps = ap (λ x. x.steps) e }
@@ -60,24 +65,37 @@ module _ {L : Type 0} (kind : Kind L) (table : Table L) (setup : Setup L) where
   none_adds g s decided (to_done z f) e = absurd (omega arith)
 
   steps_add : (f g n : ℕ) → n ≡ f + g → (s : Round L)
-      → Adds (run_steps kind setup table f s) (gone kind setup table g (run_steps kind setup table f s).station) (run_steps kind setup table n s)
+      → Adds (run_steps kind setup table f s)
+      (gone kind setup table g (run_steps kind setup table f s).station)
+      (run_steps kind setup table n s)
   steps_add zero g n e s =
       let same : g ≡ n = omega arith in
-      subst (λ (n : ℕ). Adds (run_steps kind setup table 0 s) (gone kind setup table g (run_steps kind setup table 0 s).station) (run_steps kind setup table n s)) same
+      subst
+      (λ (n : ℕ). Adds (run_steps kind setup table 0 s)
+      (gone kind setup table g (run_steps kind setup table 0 s).station)
+      (run_steps kind setup table n s))
+      same
       (none_adds g s (step_waits g s) (step_comes_to kind table setup 0 s) (steps_are g s))
   steps_add (suc f) g zero e s = absurd (omega arith)
   steps_add (suc f) g (suc n) e s = from (steps_add f g n (omega arith)) (step_comes_to kind table setup (suc f) s)
     where
-      from : ((s : Round L) → Adds (run_steps kind setup table f s) (gone kind setup table g (run_steps kind setup table f s).station) (run_steps kind setup table n s))
+      from : ((s : Round L)
+          → Adds (run_steps kind setup table f s)
+          (gone kind setup table g (run_steps kind setup table f s).station)
+          (run_steps kind setup table n s))
           → {x : Outcome L} → ComesTo table setup (suc f) s x
-          → Adds (settled s x (run_steps kind setup table f)) (gone kind setup table g (settled s x (run_steps kind setup table f)).station) (settled s x (run_steps kind setup table n))
+          → Adds (settled s x (run_steps kind setup table f))
+          (gone kind setup table g (settled s x (run_steps kind setup table f)).station)
+          (settled s x (run_steps kind setup table n))
       from add to_finish = record { station = refl; steps = refl }
       from add (to_later e) = absurd (omega arith)
       from add to_stop = record { station = refl; steps = refl }
       from add (to_done {s'} e k) = record { station = (add s').station; steps = omega (arith, (add s').steps) }
 
   gone_adds : (f g : ℕ) (st : Station L)
-      → Adds (gone kind setup table f st) (gone kind setup table g (gone kind setup table f st).station) (gone kind setup table (f + g) st)
+      → Adds (gone kind setup table f st)
+      (gone kind setup table g (gone kind setup table f st).station)
+      (gone kind setup table (f + g) st)
   gone_adds f g (idle kept) = record { station = refl; steps = refl }
   gone_adds f g (running s) = steps_add f g (f + g) refl s
   gone_adds f g (shut stop place kept) = record { station = refl; steps = refl }
@@ -102,7 +120,11 @@ module _ {L : Type 0} (kind : Kind L) (table : Table L) (setup : Setup L) where
       from rest to_finish = record { at_most = omega arith; all = λ r. cc r }
       from rest (to_later e) = absurd (omega arith)
       from rest to_stop = record { at_most = omega arith; all = λ r. cc r }
-      from rest (to_done {s'} e k) = record { at_most = omega (arith, (rest s').at_most); all = λ r. ap suc ((rest s').all r) }
+      from rest
+          (to_done {s'} e k) = record {
+            at_most = omega (arith, (rest s').at_most);
+            all = λ r. ap suc ((rest s').all r);
+          }
 
   gone_spent : (fuel : ℕ) (st : Station L) → Spent fuel (gone kind setup table fuel st)
   gone_spent fuel (idle kept) = record { at_most = omega arith; all = λ r. cc r }

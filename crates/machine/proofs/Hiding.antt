@@ -41,7 +41,8 @@ module _ {L : Type 0} {kind : Kind L} (laws : Lawful kind) (o : L) where
   pub join_right : (l m : L) → Covers kind o m (join l m)
   join_right l m = upward m (join l m) (laws.right l m)
 
-  pub join_alike : {a b c d : L} → AlikeLabels kind o a b → AlikeLabels kind o c d → AlikeLabels kind o (join a c) (join b d)
+  pub join_alike : {a b c d : L} → AlikeLabels kind o a b → AlikeLabels kind o c d
+      → AlikeLabels kind o (join a c) (join b d)
   join_alike (inl e) (inl f) = inl (ap₂ join e f)
   join_alike {a} {b} {c} {d} (inl e) (inr h) = inr (join_right a c h.0, join_right b d h.1)
   join_alike {a} {b} {c} {d} (inr h) k = inr (join_left a c h.0, join_left b d h.1)

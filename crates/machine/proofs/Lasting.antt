@@ -6,9 +6,11 @@ use Rattle.machine.specs.Calls.{LentCall}
 use Rattle.machine.specs.Laws.{CommandsGrow, MemoryKeepsLength, ShutForGood}
 use Rattle.machine.specs.Stations.{Station, shut, kept_by, after_all}
 use Rattle.machine.specs.Steps.{Setup, Kept, Round, Outcome}
-use Rattle.machine.proofs.Changes.{Follows, follows_refl, follows_trans, ComesTo, to_finish, to_later, to_stop, to_done, step_comes_to}
+use Rattle.machine.proofs.Changes.{Follows, follows_refl, follows_trans, ComesTo}
+use Rattle.machine.proofs.Changes.{to_finish, to_later, to_stop, to_done, step_comes_to}
 use Rattle.machine.proofs.Lists.{begins_refl}
-use Rattle.machine.proofs.Moves.{Move, moved, run, flat, run_flat, run_shut, Invariant, moved_keeps, run_keeps, calls_keep}
+use Rattle.machine.proofs.Moves.{Move, moved, run, flat, run_flat, run_shut}
+use Rattle.machine.proofs.Moves.{Invariant, moved_keeps, run_keeps, calls_keep}
 use Rattle.machine.proofs.SideBySide.{settle}
 
 module _ {L : Type 0} (kind : Kind L) (setup : Setup L) where
@@ -25,7 +27,10 @@ module _ {L : Type 0} (kind : Kind L) (setup : Setup L) where
 
   lasts : (before : Kept L) → Invariant kind setup (After before)
   lasts before = record {
-    entering = λ kept cell v h. follows_trans h (record { grows = begins_refl kept.commands; as_long = length-set kept.memory cell v });
+    entering =
+        λ kept cell v h.
+        follows_trans h
+        (record { grows = begins_refl kept.commands; as_long = length-set kept.memory cell v });
     starting = λ kept h. h;
     stepping = λ table fuel s h. follows_trans h (settle_lasts (step_comes_to kind table setup fuel s));
   }
@@ -47,4 +52,6 @@ module _ {L : Type 0} (kind : Kind L) where
   memory_keeps_length setup st calls = (calls_last kind setup st calls).as_long
 
   pub shut_for_good : ShutForGood kind
-  shut_for_good setup stop place kept calls = sym (run_flat kind setup (shut stop place kept) calls) ∙ run_shut kind setup stop place kept (flat kind setup calls)
+  shut_for_good setup stop place kept calls =
+      sym (run_flat kind setup (shut stop place kept) calls)
+      ∙ run_shut kind setup stop place kept (flat kind setup calls)

@@ -1,3 +1,4 @@
+-- Lemmas on steps, calls and what an observer sees, up to the theorems.
 pub mod Lists
 pub mod Hiding
 pub mod Flows

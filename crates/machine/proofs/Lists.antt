@@ -1,5 +1,6 @@
 -- Lists related element by element, and beginnings of lists.
-use Rattle.std.proofs.Common.{◌≡◌, ℕ, zero, suc, List, [], ◌∷◌, ◌++◌, length, set, ℤ, pos, negsuc, refl, ap, ◌∙◌, subst, inl, inr}
+use Rattle.std.proofs.Common.{◌≡◌, ℕ, zero, suc, List, [], ◌∷◌, ◌++◌, length, set}
+use Rattle.std.proofs.Common.{ℤ, pos, negsuc, refl, ap, ◌∙◌, subst, inl, inr}
 use Rattle.machine.specs.Lists.{Each, none, more, Begins, ends, goes_on, OneBegins}
 use Rattle.machine.specs.Steps.{set_place}
 
@@ -12,7 +13,8 @@ module _ {A : Type 0} {R : A → A → Type 0} where
   each_sym s none = none
   each_sym s (more h t) = more (s _ _ h) (each_sym s t)
 
-  pub each_trans : ((a b c : A) → R a b → R b c → R a c) → {xs ys zs : List A} → Each R xs ys → Each R ys zs → Each R xs zs
+  pub each_trans : ((a b c : A) → R a b → R b c → R a c) → {xs ys zs : List A} → Each R xs ys
+      → Each R ys zs → Each R xs zs
   each_trans s none none = none
   each_trans s (more h t) (more k u) = more (s _ _ _ h k) (each_trans s t u)
 
@@ -27,7 +29,8 @@ module _ {A : Type 0} {R : A → A → Type 0} where
 
   pub each_set_place : {xs ys : List A} {a b : A} (z : ℤ) {z' : ℤ} → z ≡ z' → Each R xs ys → R a b
       → Each R (set_place xs z a) (set_place ys z' b)
-  each_set_place {xs} {ys} {a} {b} z e t h = subst (λ (z' : ℤ). Each R (set_place xs z a) (set_place ys z' b)) e (place z)
+  each_set_place {xs} {ys} {a} {b} z e t h =
+      subst (λ (z' : ℤ). Each R (set_place xs z a) (set_place ys z' b)) e (place z)
     where
       place : (z : ℤ) → Each R (set_place xs z a) (set_place ys z b)
       place (pos i) = each_set i t h

@@ -1,15 +1,17 @@
 -- Calls taken apart into moves: an input, which is an enter or a start, or one step of a go.
-use Rattle.std.proofs.Common.{◌≡◌, ℕ, zero, suc, true, List, [], ◌∷◌, ◌++◌, ℤ, Some, None, Option, sym, refl, ap, ◌∙◌, subst, arith}
+use Rattle.std.proofs.Common.{◌≡◌, ℕ, zero, suc, true, List, [], ◌∷◌, ◌++◌, ℤ}
+use Rattle.std.proofs.Common.{Some, None, Option, sym, refl, ap, ◌∙◌, subst, arith}
 use Rattle.labels.specs.Kind.{Kind}
 use Rattle.rules.specs.Tables.{Table, Same}
 use Rattle.machine.specs.Calls.{Input, enters, starts, LentCall, facts, misfit}
-use Rattle.machine.specs.Observer.{struck, Under, AllUnder}
-use Rattle.machine.specs.Stations.{Station, idle, running, shut, fitting, Idle, Takes, entered, settled, started, run_steps, gone, effect, after, after_all, Allowed}
+use Rattle.machine.specs.Observer.{struck, AllUnder}
+use Rattle.machine.specs.Stations.{Station, idle, running, shut, fitting, Idle, Takes, entered, settled}
+use Rattle.machine.specs.Stations.{started, run_steps, gone, effect, after, after_all, Allowed}
 use Rattle.machine.specs.Steps.{Setup, Kept, Round, Outcome, step}
 use Rattle.machine.specs.declared.answers.Part.{Part}
 use Rattle.machine.specs.declared.answers.Stop.{Stop}
 use Rattle.machine.specs.declared.calls.Call.{Call}
-use Rattle.machine.specs.declared.calls.Call.TheVariants.{Enter, Look, Start, Go, NextCommand}
+use Rattle.machine.specs.declared.calls.Call.TheVariants.{Enter, Start, Go}
 use Rattle.machine.specs.declared.parts.Labelled.{Labelled}
 use Rattle.machine.proofs.Changes.{ComesTo, to_finish, to_later, to_stop, to_done, step_comes_to}
 use Rattle.machine.proofs.SideBySide.{settle}
@@ -39,7 +41,8 @@ module _ {L : Type 0} where
   moves_of table (Go fuel) moves = turns table fuel moves
   moves_of table call moves = inputs_before (facts call).inputs moves
 
-  turns_inputs : (table : Table L) (fuel : ℕ) (moves : List (Move L)) → inputs_of (turns table fuel moves) ≡ inputs_of moves
+  turns_inputs : (table : Table L) (fuel : ℕ) (moves : List (Move L))
+      → inputs_of (turns table fuel moves) ≡ inputs_of moves
   turns_inputs table zero moves = refl
   turns_inputs table (suc fuel) moves = turns_inputs table fuel moves
 
@@ -90,22 +93,27 @@ module _ {L : Type 0} (kind : Kind L) (setup : Setup L) where
 
     shut_turns : (fuel : ℕ) (stop : Stop) (place : ℤ) (kept : Kept L)
         → run (shut stop place kept) (turns table fuel moves) ≡ run (shut stop place kept) moves
-    shut_turns fuel stop place kept = run_shut stop place kept (turns table fuel moves) ∙ sym (run_shut stop place kept moves)
+    shut_turns fuel stop place kept =
+        run_shut stop place kept (turns table fuel moves) ∙ sym (run_shut stop place kept moves)
 
     steps_run : (fuel : ℕ) (s : Round L)
         → run (running s) (turns table fuel moves) ≡ run (run_steps kind setup table fuel s).station moves
     steps_run zero s = refl
     steps_run (suc fuel) s = from (steps_run fuel) (step_comes_to kind table setup (suc fuel) s)
       where
-        from : ((s' : Round L) → run (running s') (turns table fuel moves) ≡ run (run_steps kind setup table fuel s').station moves)
+        from : ((s' : Round L)
+            → run (running s') (turns table fuel moves)
+            ≡ run (run_steps kind setup table fuel s').station moves)
             → {x : Outcome L} → ComesTo table setup (suc fuel) s x
-            → run (settle s x) (turns table fuel moves) ≡ run (settled s x (run_steps kind setup table fuel)).station moves
-        from ih to_finish = idle_turns fuel s.kept
-        from ih (to_later e) = absurd (omega arith)
-        from ih to_stop = shut_turns fuel _ s.pc s.kept
-        from ih (to_done {s'} e f) = ih s'
+            → run (settle s x) (turns table fuel moves)
+            ≡ run (settled s x (run_steps kind setup table fuel)).station moves
+        from further to_finish = idle_turns fuel s.kept
+        from further (to_later e) = absurd (omega arith)
+        from further to_stop = shut_turns fuel _ s.pc s.kept
+        from further (to_done {s'} e f) = further s'
 
-    gone_run : (fuel : ℕ) (st : Station L) → run st (turns table fuel moves) ≡ run (gone kind setup table fuel st).station moves
+    gone_run : (fuel : ℕ) (st : Station L)
+        → run st (turns table fuel moves) ≡ run (gone kind setup table fuel st).station moves
     gone_run fuel (idle kept) = idle_turns fuel kept
     gone_run fuel (running s) = steps_run fuel s
     gone_run fuel (shut stop place kept) = shut_turns fuel stop place kept
@@ -142,10 +150,12 @@ module _ {L : Type 0} (kind : Kind L) (setup : Setup L) where
     turns_ready : (table : Table L) → Same rows table → (fuel : ℕ) (st : Station L) (moves : List (Move L))
         → Ready rows (run st (turns table fuel [])) moves → Ready rows st (turns table fuel moves)
     turns_ready table same zero st moves h = (same, h)
-    turns_ready table same (suc fuel) st moves h = (same, turns_ready table same fuel (moved st (turn table (suc fuel))) moves h)
+    turns_ready table same (suc fuel) st moves h =
+        (same, turns_ready table same fuel (moved st (turn table (suc fuel))) moves h)
 
     -- and they are ready where the calls are proper
-    pub ready_flat : (st : Station L) (calls : List (LentCall L)) → Allowed kind setup st calls → AllUnder kind rows calls
+    pub ready_flat : (st : Station L) (calls : List (LentCall L)) → Allowed kind setup st calls
+        → AllUnder kind rows calls
         → Ready rows st (flat calls)
     ready_flat st [] allowed under = tt
     ready_flat st (made ∷ calls) allowed under =
@@ -161,7 +171,9 @@ module _ {L : Type 0} (kind : Kind L) (setup : Setup L) where
             (subst (λ (st' : Station L). Ready rows st' (flat calls)) (sym (gone_run made.table [] fuel st)) h)
         moves call takes p h = h
 
-        fits : (x : Option Part) → Ready rows (fitting x (λ _. st) (effect kind setup made.table st made.call)) (flat calls)
+        fits : (x : Option Part)
+            → Ready rows (fitting x (λ _. st) (effect kind setup made.table st made.call))
+            (flat calls)
             → Ready rows st (fitting x (λ _. flat calls) (moves_of made.table made.call (flat calls)))
         fits None h = moves made.call allowed.0 under.0 h
         fits (Some part) h = h
@@ -170,7 +182,8 @@ module _ {L : Type 0} (kind : Kind L) (setup : Setup L) where
   pub record Invariant (P : Station L → Type 0) : Type 0 where
     pub entering : (kept : Kept L) (cell : ℕ) (v : Labelled L) → P (idle kept) → P (entered cell v (idle kept))
     pub starting : (kept : Kept L) → P (idle kept) → P (started kind (idle kept))
-    pub stepping : (table : Table L) (fuel : ℕ) (s : Round L) → P (running s) → P (settle s (step kind table setup fuel s))
+    pub stepping : (table : Table L) (fuel : ℕ) (s : Round L) → P (running s)
+        → P (settle s (step kind table setup fuel s))
 
   module _ {P : Station L → Type 0} (inv : Invariant P) where
     pub moved_keeps : (st : Station L) (move : Move L) → P st → P (moved st move)

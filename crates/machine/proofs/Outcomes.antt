@@ -1,9 +1,12 @@
--- What holds of every outcome of a step: it holds of the stops, and of what follows from each thing that the step takes.
-use Rattle.std.proofs.Common.{◌≡◌, ℕ, zero, suc, Bool, true, false, cond, List, [], ◌∷◌, set, ℤ, pos, negsuc, Option, refl, ap, ◌∙◌}
+-- What holds of every outcome of a step: of the stops, and of what follows from what the step takes.
+use Rattle.std.proofs.Common.{◌≡◌, ℕ, zero, suc, Bool, true, false, cond, List}
+use Rattle.std.proofs.Common.{[], ◌∷◌, set, ℤ, pos, negsuc, Option, refl, ap, ◌∙◌}
 use Rattle.labels.specs.Kind.{Kind}
 use Rattle.rules.specs.Tables.{Table}
 use Rattle.rules.specs.declared.Verdict.{Verdict}
-use Rattle.machine.specs.Steps.{Setup, Round, Outcome, finished, later, stopped, element, at_place, set_place, provided, taking, taking_all, numbers_onto, nearest_frame, ruled, halts, with_fuel, halted, tried, step}
+use Rattle.machine.specs.Steps.{Setup, Round, Outcome, finished, later, stopped, element}
+use Rattle.machine.specs.Steps.{at_place, set_place, provided, taking, taking_all, numbers_onto}
+use Rattle.machine.specs.Steps.{nearest_frame, ruled, halts, with_fuel, halted, tried, step}
 use Rattle.machine.specs.declared.answers.Stop.{Stop}
 use Rattle.machine.specs.declared.answers.Stop.TheVariants.{OutsideProgram, HaltAboveBottom}
 use Rattle.machine.specs.declared.parts.Labelled.{Labelled}
@@ -31,10 +34,13 @@ module _ {L : Type 0} {Q : Outcome L → Type 0} (at : AtStops Q) where
   pub taking_all_any : (n : ℕ) (es : List (Entry L)) {k : List (Labelled L) → List (Entry L) → Outcome L}
       → ((xs : List (Labelled L)) (us : List (Entry L)) → es ≡ numbers_onto xs us → Q (k xs us)) → Q (taking_all n es k)
   taking_all_any zero es f = f [] es refl
-  taking_all_any (suc n) es f = taking_any es λ a us e. taking_all_any n us λ xs vs d. f (a ∷ xs) vs (e ∙ ap (λ t. Number a ∷ t) d)
+  taking_all_any (suc n) es f =
+      taking_any es
+      λ a us e. taking_all_any n us λ xs vs d. f (a ∷ xs) vs (e ∙ ap (λ t. Number a ∷ t) d)
 
   pub nearest_frame_any : (es : List (Entry L)) {k : ReturnFrame L → List (Entry L) → Outcome L}
-      → ((xs : List (Labelled L)) (f : ReturnFrame L) (us : List (Entry L)) → es ≡ numbers_onto xs (Frame f ∷ us) → Q (k f us))
+      → ((xs : List (Labelled L)) (f : ReturnFrame L) (us : List (Entry L))
+      → es ≡ numbers_onto xs (Frame f ∷ us) → Q (k f us))
       → Q (nearest_frame es k)
   nearest_frame_any [] f = at.stops _
   nearest_frame_any (Number a ∷ es) f = nearest_frame_any es λ xs g us e. f (a ∷ xs) g us (ap (λ t. Number a ∷ t) e)
@@ -51,7 +57,8 @@ module _ {L : Type 0} {Q : Outcome L → Type 0} (at : AtStops Q) where
       elements (x ∷ xs) zero f = f x refl
       elements (x ∷ xs) (suc i) f = elements xs i (λ y e. f y (ap (λ t. x ∷ t) e))
 
-  pub ruled_any : {F : L → L → Type 0} {x : Option (Verdict L)} {k : L → L → Outcome L} → On F x → ((N R : L) → F N R → Q (k N R))
+  pub ruled_any : {F : L → L → Type 0} {x : Option (Verdict L)} {k : L → L → Outcome L} → On F x
+      → ((N R : L) → F N R → Q (k N R))
       → Q (ruled x k)
   ruled_any forbids f = at.stops _
   ruled_any (allows q) f = f _ _ q
@@ -68,8 +75,11 @@ module _ {L : Type 0} {Q : Outcome L → Type 0} (at : AtStops Q) where
   -- a step: later only without fuel, and an operation tried only with some
   pub step_any : (kind : Kind L) (table : Table L) (setup : Setup L) (fuel : ℕ) (s : Round L) → (fuel ≡ 0 → Q later)
       → (kind.below s.pc_label kind.bottom ≡ true → Q finished)
-      → ((n : ℕ) → fuel ≡ suc n → (op : Operation L) → Q (tried kind table setup op s)) → Q (step kind table setup fuel s)
-  step_any kind table setup fuel s wait finish try = at_place_any setup.program s.pc OutsideProgram λ op _. tested (halts op) (halted_any kind table setup s finish) (fueled op fuel refl)
+      → ((n : ℕ) → fuel ≡ suc n → (op : Operation L) → Q (tried kind table setup op s))
+      → Q (step kind table setup fuel s)
+  step_any kind table setup fuel s wait finish try =
+      at_place_any setup.program s.pc OutsideProgram
+      λ op _. tested (halts op) (halted_any kind table setup s finish) (fueled op fuel refl)
     where
       tested : (b : Bool) {x y : Outcome L} → Q x → Q y → Q (cond b x y)
       tested true h k = h

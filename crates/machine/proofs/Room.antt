@@ -14,7 +14,8 @@ module _ {L : Type 0} (kind : Kind L) (setup : Setup L) where
   abbrev Fits : Station L → Type 0
   Fits = Within kind setup.sizes
 
-  settle_fits : {table : Table L} {fuel : ℕ} {s : Round L} {x : Outcome L} → ComesTo table setup fuel s x → Fits (running s)
+  settle_fits : {table : Table L} {fuel : ℕ} {s : Round L} {x : Outcome L}
+      → ComesTo table setup fuel s x → Fits (running s)
       → Fits (settle s x)
   settle_fits to_finish h = h.1
   settle_fits (to_later e) h = h

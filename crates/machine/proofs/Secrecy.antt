@@ -1,11 +1,12 @@
--- Noninterference: two stations that went side by side show the same commands, and looks into alike memories have the same answers.
---
-use Rattle.std.proofs.Common.{◌≡◌, ℕ, zero, suc, Bool, true, false, cond, eqb, List, [], ◌∷◌, sym, refl, ap, ◌∙◌, ap₂, inl, inr}
+-- Noninterference: two stations that went side by side show the same commands, and answer looks alike.
+use Rattle.std.proofs.Common.{◌≡◌, ℕ, zero, suc, Bool, true, false, cond, eqb}
+use Rattle.std.proofs.Common.{List, [], ◌∷◌, sym, refl, ap, ◌∙◌, ap₂, inl, inr}
 use Rattle.labels.specs.Kind.{Kind, Lawful}
 use Rattle.rules.specs.Tables.{Table, published}
 use Rattle.machine.specs.Lists.{none, more}
 use Rattle.machine.specs.Numbers.{first_wrong}
-use Rattle.machine.specs.Observer.{History, setup_of, Proper, AlikeStations, AlikeCalls, SameCommands, SameLooks, Noninterference}
+use Rattle.machine.specs.Observer.{History, setup_of, Proper, AlikeStations, AlikeCalls}
+use Rattle.machine.specs.Observer.{SameCommands, SameLooks, Noninterference}
 use Rattle.machine.specs.Stations.{made, Answer, shows, refused, fitting, looked}
 use Rattle.machine.specs.Steps.{element}
 use Rattle.machine.specs.declared.answers.Part.TheVariants.{Memory}
@@ -35,17 +36,24 @@ module _ {L : Type 0} {kind : Kind L} (laws : Lawful kind) (o : L) where
   same_looks clearance low cell none = refl
   same_looks clearance low (suc cell) (more a t) = same_looks clearance low cell t
   same_looks clearance low zero (more (inl e) t) = ap (looked kind clearance) e
-  same_looks clearance low zero (more (inr h) t) = hidden_cell clearance low _ h.0 ∙ sym (hidden_cell clearance low _ h.1)
+  same_looks clearance low zero (more (inr h) t) =
+      hidden_cell clearance low _ h.0 ∙ sym (hidden_cell clearance low _ h.1)
 
   -- under any rows that keep what is hidden
-  pub secret : (rows : Table L) → Secure kind o rows → (one two : History L) → Proper kind rows one → Proper kind rows two
-      → AlikeStations kind o one two → AlikeCalls kind o one two → SameCommands kind o one two × SameLooks kind o one two
+  pub secret : (rows : Table L) → Secure kind o rows → (one two : History L) → Proper kind rows one
+      → Proper kind rows two
+      → AlikeStations kind o one two → AlikeCalls kind o one two
+      → SameCommands kind o one two × SameLooks kind o one two
   secret rows secure one two proper₁ proper₂ stations calls =
-      let ends = calls_end laws o rows secure (setup_of one) (setup_of two) stations.0 (made one.memory) (made two.memory) one.calls two.calls
+      let ends =
+      calls_end laws o rows secure (setup_of one) (setup_of two) stations.0 (made one.memory)
+      (made two.memory) one.calls two.calls
       (fit_idle (record { memories = stations.1; commands = refl })) proper₁ proper₂ calls in (
         ends.of_commands,
         λ counts idle₁ idle₂ cell clearance table low.
-            ap₂ (λ (len : ℕ) (x : Answer L). fitting (first_wrong (λ _. eqb len len) (Memory ∷ [])) (λ part. refused (Length part)) x)
+            ap₂
+            (λ (len : ℕ) (x : Answer L). fitting (first_wrong (λ _. eqb len len) (Memory ∷ []))
+            (λ part. refused (Length part)) x)
             (each_length stations.1) (same_looks clearance low cell (ends.of_memories counts idle₁ idle₂)),
       )
 

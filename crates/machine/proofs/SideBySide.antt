@@ -6,7 +6,8 @@ use Rattle.machine.specs.Stations.{Station, idle, running, settled}
 use Rattle.machine.specs.Steps.{◌at◌, Kept, Round, Outcome, stopped}
 use Rattle.machine.specs.declared.answers.Stop.{Stop}
 use Rattle.machine.specs.declared.parts.Labelled.{Labelled}
-use Rattle.machine.proofs.Alikes.{Memories, Stacks, crop, crops, memories_refl, memories_sym, memories_trans, stacks_sym}
+use Rattle.machine.proofs.Alikes.{Memories, Stacks, crop, crops, memories_refl}
+use Rattle.machine.proofs.Alikes.{memories_sym, memories_trans, stacks_sym}
 use Rattle.machine.proofs.Commands.{Shown}
 use Rattle.machine.proofs.Hiding.{Visible, Hidden, visible_or_hidden}
 
@@ -31,7 +32,11 @@ module _ {L : Type 0} (kind : Kind L) (o : L) where
   sight_sym h = record { memories = memories_sym kind o h.memories; commands = sym h.commands }
 
   pub sight_trans : {k l m : Kept L} → SameSight k l → SameSight l m → SameSight k m
-  sight_trans h k = record { memories = memories_trans kind o h.memories k.memories; commands = h.commands ∙ k.commands }
+  sight_trans h
+      k = record {
+        memories = memories_trans kind o h.memories k.memories;
+        commands = h.commands ∙ k.commands;
+      }
 
   -- Two rounds are at one visible place with alike stacks, or both at hidden places with stacks that tell alike.
   pub data Alongside (r s : Round L) : Type 0 where
@@ -47,7 +52,9 @@ module _ {L : Type 0} (kind : Kind L) (o : L) where
     where
       at_level : Visible kind o r.pc_label ⊎ Hidden kind o r.pc_label → Alongside r s
       at_level (inl v) = both_visible v e stacks sight
-      at_level (inr h) = both_hidden h (subst (λ (c : Labelled L). Hidden kind o c.label) e h) (crops kind o stacks) sight
+      at_level (inr h) =
+          both_hidden h (subst (λ (c : Labelled L). Hidden kind o c.label) e h)
+          (crops kind o stacks) sight
   alongside (inr h) stacks sight = both_hidden h.0 h.1 (crops kind o stacks) sight
 
   -- Two stations fit if both are idle or both running, and alike to the observer.
@@ -55,8 +62,8 @@ module _ {L : Type 0} (kind : Kind L) (o : L) where
     fit_idle : {k l : Kept L} → SameSight k l → Fit (idle k) (idle l)
     fit_running : {r s : Round L} → Alongside r s → Fit (running r) (running s)
 
-  -- How a step x of the round r and a step y of the round s fit: one of them stops, or one of them is made alone and fits
-  -- the other round as it was, or both are made and fit.
+  -- How a step x of the round r and a step y of the round s fit: one of them stops, or one of them is made
+  -- alone and fits the other round as it was, or both are made and fit.
   pub data Matches (r s : Round L) : Outcome L → Outcome L → Type 0 where
     left_stops : {n : Stop} {y : Outcome L} → Matches r s (stopped n) y
     right_stops : {n : Stop} {x : Outcome L} → Matches r s x (stopped n)
@@ -67,5 +74,8 @@ module _ {L : Type 0} (kind : Kind L) (o : L) where
   pub fit_sym : {st₁ st₂ : Station L} → Fit st₁ st₂ → Fit st₂ st₁
   fit_sym (fit_idle sight) = fit_idle (sight_sym sight)
   fit_sym (fit_running (both_visible v e stacks sight)) =
-      fit_running (both_visible (subst (λ (c : Labelled L). Visible kind o c.label) e v) (sym e) (stacks_sym kind o stacks) (sight_sym sight))
-  fit_sym (fit_running (both_hidden h k stacks sight)) = fit_running (both_hidden k h (stacks_sym kind o stacks) (sight_sym sight))
+      fit_running
+      (both_visible (subst (λ (c : Labelled L). Visible kind o c.label) e v) (sym e)
+      (stacks_sym kind o stacks) (sight_sym sight))
+  fit_sym (fit_running (both_hidden h k stacks sight)) =
+      fit_running (both_hidden k h (stacks_sym kind o stacks) (sight_sym sight))

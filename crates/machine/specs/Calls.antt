@@ -3,11 +3,11 @@ use Rattle.std.specs.Prelude.{ℕ, Bool, true, false, List, [], ◌∷◌, Optio
 use Rattle.rules.specs.Tables.{Table}
 use Rattle.machine.specs.Numbers.{all_parts, first_wrong, size_of}
 use Rattle.machine.specs.declared.answers.Part.{Part}
-use Rattle.machine.specs.declared.answers.Part.TheVariants.{Program, Memory, Stack, Log}
+use Rattle.machine.specs.declared.answers.Part.TheVariants.{Memory, Log}
 use Rattle.machine.specs.declared.calls.Call.{Call}
 use Rattle.machine.specs.declared.calls.Call.TheVariants.{Enter, Look, Start, Go, NextCommand}
 use Rattle.machine.specs.declared.calls.State.{State}
-use Rattle.machine.specs.declared.calls.State.TheVariants.{Idle, Running, Shut}
+use Rattle.machine.specs.declared.calls.State.TheVariants.{Idle, Running}
 use Rattle.machine.specs.declared.parts.Labelled.{Labelled}
 use Rattle.machine.specs.declared.parts.Sizes.{Sizes}
 
@@ -43,7 +43,8 @@ module _ {L : Type 0} where
   abbrev pub call_facts : (State → Bool) → List Part → Bool → List (Input L) → CallFacts L
   call_facts taken handed asks inputs = record { taken = taken; handed = handed; asks = asks; inputs = inputs }
 
-  -- The table: the states that take the call, the parts that it is handed, whether it asks the policy, and what it stands for.
+  -- The table: the states that take the call, the parts that it is handed, whether it asks the policy, and what
+  -- it stands for.
   abbrev pub facts : Call L → CallFacts L
   facts (Enter cell number) = call_facts is_idle (Memory ∷ []) false (enters cell number ∷ [])
   facts (Look cell clearance) = call_facts is_idle (Memory ∷ []) false []
@@ -63,9 +64,10 @@ module _ {L : Type 0} where
   abbrev pub is_input : Call L → Bool
   is_input call = is_some_input (facts call).inputs
 
--- A call as it is made, with what it is lent: how long the parts are that are handed in, and the policy. A station is handed its own
--- parts, as the call before left them, or parts of a wrong length, which are told apart here. The policy stands here by a table that
--- it is true to: any policy true to that table answers as it does.
+-- A call as it is made, with what it is lent: how long the parts are that are handed in, and the policy. A
+-- station is handed its own parts, as the call before left them, or parts of a wrong length, which are told
+-- apart here. The policy stands here by a table that it is true to: any policy true to that table answers as it
+-- does.
 pub record LentCall (L : Type 0) : Type 0 where
   pub call : Call L
   pub lens : Sizes
@@ -75,7 +77,7 @@ module _ {L : Type 0} where
   abbrev pub lent : Call L → Sizes → Table L → LentCall L
   lent call lens table = record { call = call; lens = lens; table = table }
 
-  -- Of a station made with parts of the first lengths and handed parts of the second at a call: the first part that the call is handed
-  -- and that is not as long as when the station was made.
+  -- Of a station made with parts of the first lengths and handed parts of the second at a call: the first part
+  -- that the call is handed and that is not as long as when the station was made.
   abbrev pub misfit : Sizes → Call L → Sizes → Option Part
   misfit sizes call lens = first_wrong (λ part. size_of lens part == size_of sizes part) (facts call).handed

@@ -1,3 +1,4 @@
+-- What the contracts cite: parts, steps, calls, observers, laws and worked examples.
 pub mod Numbers
 pub mod Steps
 pub mod Calls

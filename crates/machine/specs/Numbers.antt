@@ -5,7 +5,9 @@ use Rattle.machine.specs.declared.answers.Part.TheVariants.{Program, Memory, Sta
 use Rattle.machine.specs.declared.answers.Refusal.{Refusal}
 use Rattle.machine.specs.declared.answers.Refusal.TheVariants.{Limits, Length, Cell, Clearance}
 use Rattle.machine.specs.declared.answers.Stop.{Stop}
-use Rattle.machine.specs.declared.answers.Stop.TheVariants.{OutsideProgram, TooFewNumbers, StackFull, OutsideMemory, Forbidden, NoFrame, LogFull, HaltAboveBottom}
+use Rattle.machine.specs.declared.answers.Stop.TheVariants.{OutsideProgram, TooFewNumbers}
+use Rattle.machine.specs.declared.answers.Stop.TheVariants.{StackFull, OutsideMemory, Forbidden}
+use Rattle.machine.specs.declared.answers.Stop.TheVariants.{NoFrame, LogFull, HaltAboveBottom}
 use Rattle.machine.specs.declared.parts.Sizes.{Sizes}
 
 -- A refusal's number, and the part that the call is refused for, if it is for one.

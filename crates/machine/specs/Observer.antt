@@ -43,8 +43,8 @@ module _ {L : Type 0} (kind : Kind L) where
   abbrev pub end_of : History L → Station L
   end_of h = after_all kind (setup_of h) (made h.memory) h.calls
 
-  -- A call that asks its policy asks one that is true to these rows. Such a policy answers as they do, whatever it holds and however it
-  -- comes to its answers, so a table with these answers stands for it.
+  -- A call that asks its policy asks one that is true to these rows. Such a policy answers as they do, whatever
+  -- it holds and however it comes to its answers, so a table with these answers stands for it.
   abbrev pub Under : Table L → LentCall L → Type 0
   Under rows made = IsTrue (facts made.call).asks → Same rows made.table
 
@@ -88,8 +88,9 @@ module _ {L : Type 0} (kind : Kind L) where
     abbrev pub SameCommands : History L → History L → Type 0
     SameCommands one two = OneBegins ◌≡◌ (visible (commands_of (end_of one))) (visible (commands_of (end_of two)))
 
-    -- Where equally many enters and starts are left and both stations are idle, every look into a station's own parts with a
-    -- clearance at or below o has the same answer on both. (A look asks no policy, so any table stands for one.)
+    -- Where equally many enters and starts are left and both stations are idle, every look into a station's own
+    -- parts with a clearance at or below o has the same answer on both. (A look asks no policy, so any table
+    -- stands for one.)
     abbrev pub SameLooks : History L → History L → Type 0
     SameLooks one two =
         length (inputs one) ≡ length (inputs two) → Idle (end_of one) → Idle (end_of two)
@@ -98,9 +99,9 @@ module _ {L : Type 0} (kind : Kind L) where
         ≡ answer kind (setup_of two) (end_of two) (lent (Look cell clearance) (setup_of two).sizes table)
 
 module _ {L : Type 0} (kind : Kind L) where
-  -- Noninterference where policies are true to these rows: two stations that are alike to an observer when made, given lists of calls
-  -- that are alike to him, show him the same commands as far as both have come, and, after equally many enters and starts, the same
-  -- cells when both rest.
+  -- Noninterference where policies are true to these rows: two stations that are alike to an observer when
+  -- made, given lists of calls that are alike to him, show him the same commands as far as both have come, and,
+  -- after equally many enters and starts, the same cells when both rest.
   abbrev pub NoninterferenceUnder : Table L → Type 0
   NoninterferenceUnder rows =
       (o : L) (one two : History L) → Proper kind rows one → Proper kind rows two

@@ -1,8 +1,9 @@
 -- A station and its calls: what each answers and does.
-use Rattle.std.specs.Prelude.{ℕ, zero, suc, cond, List, [], ◌∷◌, drop, ℤ, pos, Some, None, Ok, Err, Option, Result, IsTrue, slice_set}
+use Rattle.std.specs.Prelude.{ℕ, zero, suc, cond, List, [], ◌∷◌, drop, ℤ, pos, Some}
+use Rattle.std.specs.Prelude.{None, Ok, Err, Option, Result, IsTrue, slice_set}
 use Rattle.labels.specs.Kind.{Kind}
 use Rattle.rules.specs.Tables.{Table}
-use Rattle.machine.specs.Calls.{LentCall, facts, is_idle, is_running, is_taken, misfit}
+use Rattle.machine.specs.Calls.{LentCall, is_idle, is_running, is_taken, misfit}
 use Rattle.machine.specs.Numbers.{outside_limits}
 use Rattle.machine.specs.Steps.{Setup, Kept, Round, Contents, Outcome, lengths, element, step}
 use Rattle.machine.specs.declared.answers.End.TheVariants.{Finished, OutOfFuel, Stopped}
@@ -22,7 +23,8 @@ pub data Station (L : Type 0) : Type 0 where
   running : Round L → Station L
   shut : Stop → ℤ → Kept L → Station L
 
--- What a call answers. A go answers the steps that it took; whether it finished, runs on or was stopped is the state after it.
+-- What a call answers. A go answers the steps that it took; whether it finished, runs on or was stopped is the
+-- state after it.
 pub data Answer (L : Type 0) : Type 0 where
   granted : Answer L
   shows : Labelled L → Answer L
@@ -98,14 +100,16 @@ module _ {L : Type 0} (kind : Kind L) where
   -- The place of the first command at or below the clearance, where the list begins at place n.
   abbrev pub first_below : L → ℕ → List (Labelled L) → Option ℕ
   first_below clearance n [] = None
-  first_below clearance n (v ∷ commands) = cond (below v.label clearance) (Some n) (first_below clearance (suc n) commands)
+  first_below clearance n (v ∷ commands) =
+      cond (below v.label clearance) (Some n) (first_below clearance (suc n) commands)
 
   -- what a look with a clearance answers of a cell
   abbrev pub looked : L → Labelled L → Answer L
   looked clearance v = cond (below v.label clearance) (shows v) (refused Clearance)
 
   module _ (setup : Setup L) where
-    -- Steps until one finishes, is stopped or finds no fuel. With no fuel no operation is done, so nothing goes on from there.
+    -- Steps until one finishes, is stopped or finds no fuel. With no fuel no operation is done, so nothing goes
+    -- on from there.
     abbrev pub run_steps : Table L → ℕ → Round L → Gone L
     run_steps table zero s = settled s (step kind table setup zero s) (λ s'. record { station = running s'; steps = 0 })
     run_steps table (suc fuel) s = settled s (step kind table setup (suc fuel) s) (run_steps table fuel)
@@ -115,7 +119,8 @@ module _ {L : Type 0} (kind : Kind L) where
     gone table fuel (running s) = run_steps table fuel s
     gone table fuel st = record { station = st; steps = 0 }
 
-    -- What a call answers if every part handed in is as long as when made. It means something only where the state takes the call.
+    -- What a call answers if every part handed in is as long as when made. It means something only where the
+    -- state takes the call.
     abbrev pub reply : Table L → Station L → Call L → Answer L
     reply table st (Enter cell v) = element (memory_of st) cell (refused Cell) (λ _. granted)
     reply table st (Look cell clearance) = element (memory_of st) cell (refused Cell) (looked clearance)
@@ -130,9 +135,12 @@ module _ {L : Type 0} (kind : Kind L) where
     effect table st (Go fuel) = (gone table fuel st).station
     effect table st call = st
 
-    -- What a call answers, and the station after it. With a part of the wrong length it is refused with 2 and nothing changes.
+    -- What a call answers, and the station after it. With a part of the wrong length it is refused with 2 and
+    -- nothing changes.
     abbrev pub answer : Station L → LentCall L → Answer L
-    answer st made = fitting (misfit setup.sizes made.call made.lens) (λ part. refused (Length part)) (reply made.table st made.call)
+    answer st made =
+        fitting (misfit setup.sizes made.call made.lens) (λ part. refused (Length part))
+        (reply made.table st made.call)
 
     abbrev pub after : Station L → LentCall L → Station L
     after st made = fitting (misfit setup.sizes made.call made.lens) (λ _. st) (effect made.table st made.call)

@@ -1,5 +1,7 @@
 -- One step of a running station, over any table.
-use Rattle.std.specs.Prelude.{ℕ, zero, suc, Bool, true, false, cond, List, [], ◌∷◌, ◌++◌, length, ℤ, pos, negsuc, ◌+ℤ◌, ◌-ℤ◌, Some, None, Ok, Err, Option, Result, int_lt, nat_lt, slice_set}
+use Rattle.std.specs.Prelude.{ℕ, zero, suc, Bool, true, false, cond, List, [], ◌∷◌}
+use Rattle.std.specs.Prelude.{◌++◌, length, ℤ, pos, negsuc, ◌+ℤ◌, ◌-ℤ◌, Some, None}
+use Rattle.std.specs.Prelude.{Ok, Err, Option, Result, int_lt, nat_lt, slice_set}
 use Rattle.std.specs.Int.{int_wrap, w32}
 use Rattle.labels.specs.Kind.{Kind}
 use Rattle.rules.specs.Tables.{Table, request}
@@ -9,13 +11,16 @@ use Rattle.rules.specs.declared.Verdict.{Verdict}
 use Rattle.machine.specs.declared.answers.End.{End}
 use Rattle.machine.specs.declared.answers.End.TheVariants.{Finished, OutOfFuel, Stopped}
 use Rattle.machine.specs.declared.answers.Stop.{Stop}
-use Rattle.machine.specs.declared.answers.Stop.TheVariants.{OutsideProgram, TooFewNumbers, StackFull, OutsideMemory, Forbidden, NoFrame, LogFull, HaltAboveBottom}
+use Rattle.machine.specs.declared.answers.Stop.TheVariants.{OutsideProgram, TooFewNumbers}
+use Rattle.machine.specs.declared.answers.Stop.TheVariants.{StackFull, OutsideMemory, Forbidden}
+use Rattle.machine.specs.declared.answers.Stop.TheVariants.{NoFrame, LogFull, HaltAboveBottom}
 use Rattle.machine.specs.declared.parts.Labelled.{Labelled}
 use Rattle.machine.specs.declared.parts.Frame.{Frame as ReturnFrame}
 use Rattle.machine.specs.declared.parts.Entry.{Entry}
 use Rattle.machine.specs.declared.parts.Entry.TheVariants.{Number, Frame}
 use Rattle.machine.specs.declared.parts.Operation.{Operation}
-use Rattle.machine.specs.declared.parts.Operation.TheVariants.{Push, Pop, Noop, Add, Sub, Less, Load, Store, Jump, Bnz, Call, Return, Output, Halt}
+use Rattle.machine.specs.declared.parts.Operation.TheVariants.{Push, Pop, Noop, Add, Sub, Less, Load, Store}
+use Rattle.machine.specs.declared.parts.Operation.TheVariants.{Jump, Bnz, Call, Return, Output, Halt}
 use Rattle.machine.specs.declared.parts.Sizes.{Sizes}
 
 infix 70 ◌at◌
@@ -222,7 +227,11 @@ module _ {L : Type 0} (kind : Kind L) (table : Table L) (setup : Setup L) where
       taking rest λ b rest.
       at_place s.kept.memory a.value (stopped OutsideMemory) λ cell.
       asking opcode.Store s a.label b.label cell.label λ N R.
-      next_keeping s N rest (record { memory = set_place s.kept.memory a.value (b.value at R); commands = s.kept.commands })
+      next_keeping s N rest
+      (record {
+        memory = set_place s.kept.memory a.value (b.value at R);
+        commands = s.kept.commands;
+      })
   tried Jump s =
       taking s.stack λ a rest.
       asking opcode.Jump s a.label bottom bottom λ N R.
@@ -250,7 +259,7 @@ module _ {L : Type 0} (kind : Kind L) (table : Table L) (setup : Setup L) where
   abbrev pub attempt : ℕ → Round L → Operation L → Outcome L
   attempt fuel s op = cond (halts op) (halted s) (with_fuel fuel (tried op s))
 
-  -- One step with so much fuel left. So the tests come in this order: a place outside the program, a halt, no fuel left, and
-  -- then those of the operation.
+  -- One step with so much fuel left. So the tests come in this order: a place outside the program, a halt, no
+  -- fuel left, and then those of the operation.
   abbrev pub step : ℕ → Round L → Outcome L
   step fuel s = at_place setup.program s.pc (stopped OutsideProgram) (attempt fuel s)

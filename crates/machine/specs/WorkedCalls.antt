@@ -6,7 +6,8 @@ use Rattle.labels.specs.declared.level.Level.TheVariants.{L0, L1, L2, L3, L7}
 use Rattle.rules.specs.Tables.{published}
 use Rattle.machine.specs.Calls.{LentCall, lent}
 use Rattle.machine.specs.Numbers.{outside_limits}
-use Rattle.machine.specs.Stations.{Station, shut, Answer, granted, shows, took, found, refused, made, make, answer, after, after_all, Allowed}
+use Rattle.machine.specs.Stations.{Station, shut, Answer, granted, shows, took, found}
+use Rattle.machine.specs.Stations.{refused, made, make, answer, after, after_all, Allowed}
 use Rattle.machine.specs.Steps.{◌at◌, Setup, Contents, contents, made_of}
 use Rattle.machine.specs.declared.answers.Part.TheVariants.{Program, Memory, Stack, Log}
 use Rattle.machine.specs.declared.answers.Refusal.TheVariants.{Limits, Length, Cell, Clearance}
@@ -99,11 +100,16 @@ pub record WorkedCalls : Type 0 where
   pub limits : map outside_limits
       (sized 1 1 1 1 ∷ sized 4096 1024 1024 4096 ∷ sized 4097 0 0 0 ∷ sized 0 1 1 1 ∷ sized 1 1025 0 0 ∷ sized 1 0 1 1
       ∷ sized 1 1 1025 0 ∷ sized 1 1 0 1 ∷ sized 1 1 1 4097 ∷ sized 1 1 1 0 ∷ [])
-      ≡ None ∷ None ∷ Some Program ∷ Some Program ∷ Some Memory ∷ Some Memory ∷ Some Stack ∷ Some Stack ∷ Some Log ∷ Some Log ∷ []
+      ≡ None ∷ None ∷ Some Program ∷ Some Program ∷ Some Memory ∷ Some Memory ∷ Some Stack
+      ∷ Some Stack ∷ Some Log ∷ Some Log ∷ []
   pub is_made : make (parts 2 2) ≡ Ok (made memory)
   pub not_made : make (parts 0 0) ≡ Err (Limits Stack)
   -- every call is made in a state that takes it and has its answer, and the last leaves the station shut
   pub allowed : Allowed levels station (made memory) (map call_of exchanges)
   pub answered : answers_from (made memory) (map call_of exchanges) ≡ map answer_of exchanges
   pub ends : after_all levels station (made memory) (map call_of exchanges)
-      ≡ shut LogFull (pos 4) (record { memory = pos 50 at L0 ∷ pos 7 at L0 ∷ []; commands = pos 42 at L3 ∷ pos 7 at L0 ∷ [] })
+      ≡ shut LogFull (pos 4)
+      (record {
+        memory = pos 50 at L0 ∷ pos 7 at L0 ∷ [];
+        commands = pos 42 at L3 ∷ pos 7 at L0 ∷ [];
+      })

@@ -1,5 +1,7 @@
--- Worked histories that are alike to an observer at level 0: hidden numbers, fuel, sizes and the length of the calls differ. They
--- show that there are histories of which noninterference speaks, for commands and for looks.
+-- Worked histories that are alike to an observer at level 0, of which noninterference speaks.
+--
+-- Hidden numbers, fuel, sizes and the length of the calls differ. They show that there are such histories, for commands
+-- and for looks.
 use Rattle.std.specs.Prelude.{◌≡◌, ℕ, List, [], ◌∷◌, length, ℤ, pos}
 use Rattle.labels.specs.Level.{levels}
 use Rattle.labels.specs.declared.level.Level.{Level}
@@ -20,7 +22,8 @@ adds n l = Push (pos 0 at L0) ∷ Load ∷ Push (n at l) ∷ Add ∷ Output ∷ 
 
 -- a call that is handed a memory of so many cells, and a stack and a log of these lengths
 abbrev pub handed : ℕ → ℕ → ℕ → Call Level → LentCall Level
-handed memory stack log call = lent call (record { program = 9; memory = memory; stack = stack; log = log }) (published levels)
+handed memory stack log call =
+    lent call (record { program = 9; memory = memory; stack = stack; log = log }) (published levels)
 
 abbrev pub to_one : Call Level → LentCall Level
 to_one = handed 2 2 9
@@ -39,8 +42,8 @@ one fuel = record {
       ∷ to_one (Enter 1 (pos 8 at L0)) ∷ to_one Start ∷ to_one (Go fuel) ∷ [];
 }
 
--- The same rounds up to their end, the first in smaller goes, with a look, a question and a refused call between them; and then
--- more calls.
+-- The same rounds up to their end, the first in smaller goes, with a look, a question and a refused call
+-- between them; and then more calls.
 abbrev pub two : List (LentCall Level) → History Level
 two more = record {
   program = adds (pos 5) L5;

@@ -10,21 +10,25 @@ use Rattle.rules.specs.declared.Request.{Request}
 use Rattle.rules.specs.declared.Verdict.{Verdict}
 use Rattle.machine.specs.Steps.{◌at◌, Outcome, finished, later, stopped, done, setup, step}
 use Rattle.machine.specs.Worked.{◌on◌, round, one_step, due_frame, Row, ◌gives◌}
-use Rattle.machine.specs.declared.answers.Stop.TheVariants.{OutsideProgram, TooFewNumbers, StackFull, OutsideMemory, Forbidden, NoFrame, LogFull}
+use Rattle.machine.specs.declared.answers.Stop.TheVariants.{OutsideProgram, TooFewNumbers, StackFull}
+use Rattle.machine.specs.declared.answers.Stop.TheVariants.{OutsideMemory, Forbidden, NoFrame, LogFull}
 use Rattle.machine.specs.declared.parts.Entry.{Entry}
 use Rattle.machine.specs.declared.parts.Entry.TheVariants.{Frame}
 use Rattle.machine.specs.declared.parts.Operation.{Operation}
-use Rattle.machine.specs.declared.parts.Operation.TheVariants.{Push, Pop, Noop, Add, Sub, Less, Load, Store, Jump, Bnz, Call, Return, Output, Halt}
+use Rattle.machine.specs.declared.parts.Operation.TheVariants.{Push, Pop, Noop, Add, Sub, Less, Load, Store}
+use Rattle.machine.specs.declared.parts.Operation.TheVariants.{Jump, Bnz, Call, Return, Output, Halt}
 
 abbrev pub same_level : Level → Level → Bool
 same_level a b = rank a == rank b
 
 -- Answers N = 6 and R = 7 to a request with exactly these labels, and forbids every other.
 abbrev pub exactly : Level → Level → Level → Level → Request Level → Option (Verdict Level)
-exactly p a b c q = cond (same_level q.pc p && same_level q.a a && same_level q.b b && same_level q.c c) (verdict L6 L7) None
+exactly p a b c q =
+    cond (same_level q.pc p && same_level q.a a && same_level q.b b && same_level q.c c)
+    (verdict L6 L7) None
 
--- The labels that each operation asks with, where the program counter has 1, the top number 2, the number beneath it 3, the cell 4
--- and the frame 4.
+-- The labels that each operation asks with, where the program counter has 1, the top number 2, the number
+-- beneath it 3, the cell 4 and the frame 4.
 abbrev pub strict_row : Opcode → Request Level → Option (Verdict Level)
 strict_row opcode.Push = exactly L1 L2 L0 L0
 strict_row opcode.Pop = exactly L1 L2 L0 L0
@@ -64,17 +68,22 @@ requests =
     ∷ (asks Jump (pos 5 on L2 ∷ []) gives done (round 5 L6 [] (pos 7 at L4 ∷ []) []))
     ∷ (asks (Bnz (pos 3)) (pos 1 on L2 ∷ []) gives done (round 3 L6 [] (pos 7 at L4 ∷ []) []))
     ∷ (asks (Call 1 false) (pos 5 on L2 ∷ pos 9 on L3 ∷ [])
-    gives done (round 5 L6 (pos 9 on L3 ∷ Frame (record { place = pos 1; due = false; label = L7 }) ∷ []) (pos 7 at L4 ∷ []) []))
+    gives done
+    (round 5 L6 (pos 9 on L3 ∷ Frame (record { place = pos 1; due = false; label = L7 }) ∷ [])
+    (pos 7 at L4 ∷ []) []))
     ∷ (asks Return (pos 2 on L2 ∷ high_frame ∷ []) gives done (round 3 L6 (pos 2 on L7 ∷ []) (pos 7 at L4 ∷ []) []))
-    ∷ (one_step (exactly L1 L4 L0 L0) 1 Return 0 L1 (pos 2 on L2 ∷ Frame (record { place = pos 3; due = false; label = L4 }) ∷ []) []
+    ∷ (one_step (exactly L1 L4 L0 L0) 1 Return 0 L1
+    (pos 2 on L2 ∷ Frame (record { place = pos 3; due = false; label = L4 }) ∷ []) []
     gives done (round 3 L6 [] [] []))
     ∷ (asks Output (pos 2 on L2 ∷ []) gives done (round 1 L6 [] (pos 7 at L4 ∷ []) (pos 2 at L7 ∷ [])))
     ∷ []
 
--- A step where everything is forbidden, with one cell of memory, a stack that is full at two entries, and a log that is full at one.
--- It stands at place p of a program of one operation.
+-- A step where everything is forbidden, with one cell of memory, a stack that is full at two entries, and a log
+-- that is full at one. It stands at place p of a program of one operation.
 abbrev pub tests : ℕ → ℕ → Operation Level → List (Entry Level) → Outcome Level
-tests fuel p op stack = step levels (λ _. None) (setup (op ∷ []) (pos 7 at L0 ∷ []) 2 1) fuel (round p L0 stack (pos 7 at L0 ∷ []) (pos 1 at L0 ∷ []))
+tests fuel p op stack =
+    step levels (λ _. None) (setup (op ∷ []) (pos 7 at L0 ∷ []) 2 1) fuel
+    (round p L0 stack (pos 7 at L0 ∷ []) (pos 1 at L0 ∷ []))
 
 abbrev pub order : List Row
 order =

@@ -94,7 +94,8 @@ impl From<Refusal> for u8 {
     }
 }
 
-/// The number that a stop is told by. Not by numbers of the variants, which those of a refusal could not have: two hold a part.
+/// The number that a stop is told by. Not by numbers of the variants, which those of a refusal could not have:
+/// two hold a part.
 impl From<Stop> for u8 {
     ghost from_gives = { λ stop n. n ≡ stop_number stop };
 

@@ -1,4 +1,4 @@
-// What a station is made of and what it means: labelled numbers, stack entries, operations, answers; and the theorems about them.
+// What a station is made of and what it means: its parts, operations, calls and answers; and the theorems about them.
 #![tactic(auto)]
 
 mod answers;

@@ -1,5 +1,4 @@
-// What the four parts of a station hold: operations in the program, labelled numbers in the memory and the log, entries
-// on the stack.
+// What the four parts of a station hold: operations, labelled numbers, stack entries.
 
 /// A number with its label, written n@l.
 #[derive(Clone, Copy, Debug, PartialEq, Eq, Hash)]

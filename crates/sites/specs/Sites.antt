@@ -48,24 +48,31 @@ module _ {L : Type 0} where
   abbrev pub LeavesUntaken : StationCode L → StationCode L × Reply L → Type 0
   LeavesUntaken st r = (r.0 ≡ st) × ((parts : Contents L) → r.1 ≡ NotTaken (state_of (station_with st parts)))
 
--- A call on a station that is lent these parts does what is defined, and they stay as long as they were when it was made.
-pub record Lends {L : Type 0} (kind : Kind L) (True : Table L → Type 0) (parts parts' : Contents L) (before : StationCode L) (call : Call L)
+-- A call on a station that is lent these parts does what is defined, and they stay as long as they were when it
+-- was made.
+pub record Lends {L : Type 0} (kind : Kind L) (TrueTo : Table L → Type 0) (parts parts' : Contents L)
+    (before : StationCode L) (call : Call L)
     (result : StationCode L × Reply L) : Type 0 where
-  pub does : Does kind True (sited before parts) call (sited result.0 parts') result.1
+  pub does : Does kind TrueTo (sited before parts) call (sited result.0 parts') result.1
   pub as_made : made_sizes result.0 ≡ lengths parts'
 
 -- What comes of a call that hands in these parts, be they the station's own or of other lengths.
-pub record Hands {L : Type 0} (kind : Kind L) (True : Table L → Type 0) (parts parts' : Contents L) (before : StationCode L) (call : Call L)
+pub record Hands {L : Type 0} (kind : Kind L) (TrueTo : Table L → Type 0) (parts parts' : Contents L)
+    (before : StationCode L) (call : Call L)
     (result : StationCode L × Reply L) : Type 0 where
-  pub lends : made_sizes before ≡ lengths parts → Lends kind True parts parts' before call result
-  pub refuses : (part : Part) → Takes (station_with before parts) call → misfit (made_sizes before) call (lengths parts) ≡ Some part
+  pub lends : made_sizes before ≡ lengths parts → Lends kind TrueTo parts parts' before call result
+  pub refuses : (part : Part) → Takes (station_with before parts) call
+      → misfit (made_sizes before) call (lengths parts) ≡ Some part
       → (result ≡ (before, Refused (Length part))) × (parts' ≡ parts)
 
 -- The policy is not asked: the call is no go of a running station, or it is refused for a part.
 abbrev pub Unasked : {L : Type 0} → Contents L → StationCode L → Call L → Type 0
-Unasked parts before call = (Asking (station_with before parts) call → ⊥) ⊎ (misfit (made_sizes before) call (lengths parts) ≢ None)
+Unasked parts before call =
+    (Asking (station_with before parts) call → ⊥)
+    ⊎ (misfit (made_sizes before) call (lengths parts) ≢ None)
 
 -- A call on a station with these parts that is handed others of these lengths.
-pub record Offers {L : Type 0} (parts : Contents L) (before : StationCode L) (lens : Sizes) (call : Call L) (result : StationCode L × Reply L) : Type 0 where
+pub record Offers {L : Type 0} (parts : Contents L) (before : StationCode L) (lens : Sizes)
+    (call : Call L) (result : StationCode L × Reply L) : Type 0 where
   pub refuses : Refuses (sited before parts) lens call (sited result.0 parts) result.1
   pub as_made : made_sizes result.0 ≡ lengths parts

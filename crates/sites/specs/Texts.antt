@@ -7,7 +7,8 @@ use Rattle.machine.specs.declared.calls.State.{State}
 use Rattle.machine.specs.declared.calls.State.TheVariants.{Idle, Running, Shut}
 use Rattle.sites.specs.declared.replies.Answered.{Answered}
 use Rattle.sites.specs.declared.replies.Reply.{Reply}
-use Rattle.sites.specs.declared.replies.Reply.TheVariants.{Entered, Shown, Started, Gone, Found, Refused, NotTaken, NotLent}
+use Rattle.sites.specs.declared.replies.Reply.TheVariants.{Entered, Shown, Started, Gone}
+use Rattle.sites.specs.declared.replies.Reply.TheVariants.{Found, Refused, NotTaken, NotLent}
 
 -- how a go ended that left this state
 abbrev pub ending_text : State → List ℕ

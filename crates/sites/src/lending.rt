@@ -70,7 +70,8 @@ impl<L: Label> Parts<L> {
         station: Station<L>,
         call: Call<L>,
     ) -> (Station<L>, Reply<L>)
-        ensures hands { Hands L.Label.kind (P.Policy.faithful policy.old) (held self.old) (held self.new) station call result }
+        ensures hands { Hands L.Label.kind (P.Policy.faithful policy.old)
+            (held self.old) (held self.new) station call result }
         ensures still { StaysTrue P.Policy policy.old policy.new }
         ensures unasked { Unasked (held self.old) station call → policy.new ≡ policy.old }
     {
@@ -138,7 +139,8 @@ impl<L: Label> Parts<L> {
         station: Station<L>,
         fuel: u32,
     ) -> (Station<L>, Reply<L>)
-        ensures hands { Hands L.Label.kind (P.Policy.faithful policy.old) (held self.old) (held self.new) station (Go fuel) result }
+        ensures hands { Hands L.Label.kind (P.Policy.faithful policy.old)
+            (held self.old) (held self.new) station (Go fuel) result }
         ensures still { StaysTrue P.Policy policy.old policy.new }
         ensures unasked { Unasked (held self.old) station (Go fuel) → policy.new ≡ policy.old }
     {

@@ -22,7 +22,7 @@ pub struct Rehearsal<L> {
 
 impl<L: Label> Rehearsal<L> {
     ghost use Rattle.std.specs.Prelude.{◌≡◌, ◌<◌, IsOk};
-    ghost use Rattle.machine.specs.Steps.{step};
+    ghost use Rattle.machine.specs.Steps.{made_of, step};
     ghost use Rattle.steps.specs.Operations.{Steps};
     ghost use Rattle.sites.specs.Rehearsals.{Follows};
     ghost use Rattle.sites.specs.Sites.{held};
@@ -32,6 +32,7 @@ impl<L: Label> Rehearsal<L> {
         ensures steps { Steps P.Policy policy.old policy.new (held self.old.parts) (held self.new.parts)
             self.old.registers result (λ table setup. step L.Label.kind table setup fuel) }
         ensures fuelled { IsOk result → 0 < fuel }
+        ensures as_made { made_of (held self.new.parts) ≡ made_of (held self.old.parts) }
         ensures follows { Follows self.old.registers self.new.registers result }
     {
         let registers = self.registers.step(

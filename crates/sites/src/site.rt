@@ -16,8 +16,9 @@ use station::{Idle, Station};
 use std::alloc::{AllocError, Global};
 use std::marker::Model;
 
-/// A station with its own parts and its policy. Every call is lent the station's own parts, as the call before left them,
-/// and the station's policy. Contracts see the station with its parts as the definitions have it, and the policy.
+/// A station with its own parts and its policy. Every call is lent the station's own parts, as the call before
+/// left them, and the station's policy. Contracts see the station with its parts as the definitions have it,
+/// and the policy.
 #[derive(Drop)]
 pub struct Site<P, L> {
     station: Station<L>,

@@ -20,7 +20,8 @@ pub no_misfit : (wrong : Option Part) → Ok tt ≡ checked Length wrong → wro
 no_misfit None fits = refl
 no_misfit (Some part) fits = cc
 
-sooner : (part : Part) (right : Bool) {rest : Option Part} → cond right rest (Some part) ≡ None → (right ≡ true) × (rest ≡ None)
+sooner : (part : Part) (right : Bool) {rest : Option Part} → cond right rest (Some part) ≡ None
+    → (right ≡ true) × (rest ≡ None)
 sooner part true none = (refl, none)
 sooner part false none = cc
 
@@ -42,6 +43,17 @@ module _ {L : Type 0} (kind : Kind L) (setup : Setup L) (before : Station L) (ma
       → given ≡ reply kind setup made.table before made.call → left ≡ effect kind setup made.table before made.call
       → Performs kind setup before made given left
   fitted fits answers leaves = record {
-    answers = answers ∙ sym (ap (λ wrong. fitting wrong (λ part. refused (Length part)) (reply kind setup made.table before made.call)) fits);
-    leaves = leaves ∙ sym (ap (λ wrong. fitting wrong (λ _. before) (effect kind setup made.table before made.call)) fits);
+    answers =
+        answers
+        ∙ sym
+        (ap
+        (λ wrong.
+        fitting wrong (λ part. refused (Length part))
+        (reply kind setup made.table before made.call))
+        fits);
+    leaves =
+        leaves
+        ∙ sym
+        (ap (λ wrong. fitting wrong (λ _. before) (effect kind setup made.table before made.call))
+        fits);
   }

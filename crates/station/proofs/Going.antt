@@ -1,9 +1,8 @@
 -- A go, by whether a part is refused for its length.
-use Rattle.std.proofs.Common.{◌≡◌, ℕ, None, Some, Ok, Err, Option, ◌+◌, refl, sym, ap, ◌∙◌, subst}
+use Rattle.std.proofs.Common.{◌≡◌, ℕ, None, Some, Ok, Err, Option, ◌+◌, refl, sym, ap, ◌∙◌}
 use Rattle.labels.specs.Kind.{Kind}
-use Rattle.rules.specs.Tables.{Table}
 use Rattle.rules.specs.declared.Policy.{Ghosts as Policy}
-use Rattle.machine.specs.Stations.{Answer, took, refused, fitting, Gone, run_steps}
+use Rattle.machine.specs.Stations.{Answer, took, refused, fitting, run_steps}
 use Rattle.machine.specs.Steps.{Contents, lengths}
 use Rattle.machine.specs.declared.answers.End.{End}
 use Rattle.machine.specs.declared.answers.Part.{Part}
@@ -20,7 +19,8 @@ use Rattle.station.specs.declared.running.Running.{Running}
 use Rattle.station.proofs.Fitting.{not_as_made, no_misfit, as_made, fitted}
 
 -- a refusal for the first wrong part, and no refusal where there is none
-why_is : {why : Refusal} {part : Part} (wrong : Option Part) → Err why ≡ checked Length wrong → wrong ≡ Some part → why ≡ Length part
+why_is : {why : Refusal} {part : Part} (wrong : Option Part) → Err why ≡ checked Length wrong
+    → wrong ≡ Some part → why ≡ Length part
 why_is None e is = cc
 why_is (Some other) e is = cc
 
@@ -28,25 +28,30 @@ never_none : {why : Refusal} (wrong : Option Part) → Err why ≡ checked Lengt
 never_none None e is = cc
 never_none (Some other) e is = cc
 
-refused_so : {L : Type 0} {why : Refusal} (wrong : Option Part) (x : Answer L) → Err why ≡ checked Length wrong → refused why ≡ fitting wrong (λ part. refused (Length part)) x
+refused_so : {L : Type 0} {why : Refusal} (wrong : Option Part) (x : Answer L)
+    → Err why ≡ checked Length wrong → refused why ≡ fitting wrong (λ part. refused (Length part)) x
 refused_so None x e = cc
 refused_so (Some part) x e = cc
 
-as_it_was : {A : Type 0} {why : Refusal} (wrong : Option Part) (x y : A) → Err why ≡ checked Length wrong → x ≡ fitting wrong (λ _. x) y
+as_it_was : {A : Type 0} {why : Refusal} (wrong : Option Part) (x y : A)
+    → Err why ≡ checked Length wrong → x ≡ fitting wrong (λ _. x) y
 as_it_was None x y e = cc
 as_it_was (Some part) x y e = refl
 
 -- not refused: the parts are as long as when the station was made
-pub as_long : (made : Sizes) {lens handed : Sizes} → lens ≡ handed → Ok tt ≡ checked Length (not_as_made made lens) → made ≡ handed
+pub as_long : (made : Sizes) {lens handed : Sizes} → lens ≡ handed
+    → Ok tt ≡ checked Length (not_as_made made lens) → made ≡ handed
 as_long made {lens} are checks = as_made made lens (no_misfit _ checks) ∙ are
 
-module _ {P L : Type 0} (policy : Policy P L) {before : P} (kind : Kind L) {parts : Contents L} (fuel : ℕ) (st : Running L)
+module _ {P L : Type 0} (policy : Policy P L) {before : P} (kind : Kind L) {parts : Contents L}
+    (fuel : ℕ) (st : Running L)
     {lens : Sizes} (lens_are : lens ≡ lengths parts) where
   pub go_refused : (why : Refusal) → Err why ≡ checked Length (not_as_made st.sizes lens)
       → Goes policy before before kind parts parts fuel st (Err (record { why = why; station = st }))
   go_refused why checked_so =
       let wrong = not_as_made st.sizes (lengths parts) in
-      let checks : Err why ≡ checked Length wrong = checked_so ∙ ap (λ n. checked Length (not_as_made st.sizes n)) lens_are in
+      let checks : Err why ≡ checked Length wrong =
+      checked_so ∙ ap (λ n. checked Length (not_as_made st.sizes n)) lens_are in
       record {
         performs = λ table true. record { answers = refused_so wrong _ checks; leaves = as_it_was wrong _ _ checks };
         still = λ table true. true;
@@ -69,9 +74,17 @@ module _ {P L : Type 0} (policy : Policy P L) {before : P} (kind : Kind L) {part
       let same = as_long st.sizes lens_are checks in
       record {
         performs = λ table true.
-            let went : run_steps kind (made_as parts.program st.sizes) table fuel (round st.registers parts) ≡ record { station = ended ran.0 (round st'.registers parts'); steps = ran.1 }
-            = ap (λ s. run_steps kind (made_as parts.program s) table fuel (round st.registers parts)) same ∙ runs table true in
-            fitted kind (made_as parts.program st.sizes) _ _ fits (ap (λ gone. took gone.steps) (sym went)) (settles parts' ∙ ap (λ gone. gone.station) (sym went));
+            let went : run_steps kind (made_as parts.program st.sizes) table fuel
+            (round st.registers parts)
+            ≡ record { station = ended ran.0 (round st'.registers parts'); steps = ran.1 }
+            = ap
+            (λ s.
+            run_steps kind (made_as parts.program s) table fuel (round st.registers parts))
+            same
+            ∙ runs table true in
+            fitted kind (made_as parts.program st.sizes) _ _ fits
+            (ap (λ gone. took gone.steps) (sym went))
+            (settles parts' ∙ ap (λ gone. gone.station) (sym went));
         still = still;
         asks = asks;
         refuses = λ part is. cc (sym is ∙ fits);

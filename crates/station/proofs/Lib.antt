@@ -1,3 +1,4 @@
+-- Lemmas on lengths, cells and goes.
 pub mod Fitting
 pub mod Cells
 pub mod Runs

@@ -29,17 +29,19 @@ module _ {L : Type 0} where
 
 module _ {L : Type 0} (kind : Kind L) where
   -- A call on a station: the answer and the station after it are those that are defined.
-  pub record Performs (setup : Setup L) (before : Station L) (made : LentCall L) (given : Answer L) (left : Station L) : Type 0 where
+  pub record Performs (setup : Setup L) (before : Station L) (made : LentCall L) (given : Answer L)
+      (left : Station L) : Type 0 where
     pub answers : given ≡ answer kind setup before made
     pub leaves : left ≡ after kind setup before made
 
-  -- A call that is lent some of the parts and no policy, on a station made with parts of these lengths: it performs what is defined,
-  -- whatever the other parts hold. `before` and `after` see the station with its parts, which are `parts rest` before and `parts' rest`
-  -- after the call.
+  -- A call that is lent some of the parts and no policy, on a station made with parts of these lengths: it
+  -- performs what is defined, whatever the other parts hold. `before` and `after` see the station with its
+  -- parts, which are `parts rest` before and `parts' rest` after the call.
   abbrev pub Serves : Sizes → Call L → (Contents L → Station L) → (Contents L → Contents L) → (Contents L → Station L)
       → (Contents L → Contents L) → Answer L → Type 0
   Serves sizes call before parts after parts' given = (rest : Contents L) (table : Table L)
-      → Performs (made_as rest.program sizes) (before (parts rest)) (lent call (lengths (parts rest)) table) given (after (parts' rest))
+      → Performs (made_as rest.program sizes) (before (parts rest))
+      (lent call (lengths (parts rest)) table) given (after (parts' rest))
 
   -- The question for the next command, of a station in any state with this window over its log.
   abbrev pub TellsNext : Sizes → Window → List (Labelled L) → ℕ → L → Result (Option ℕ) Refusal → Type 0

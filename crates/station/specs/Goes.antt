@@ -1,5 +1,5 @@
 -- What a go in code answers and leaves, in the words of the definitions.
-use Rattle.std.specs.Prelude.{◌≡◌, ℕ, ◌+◌, None, Some, Option, Ok, Err, Result}
+use Rattle.std.specs.Prelude.{◌≡◌, ℕ, ◌+◌, None, Some, Ok, Err, Result}
 use Rattle.labels.specs.Kind.{Kind}
 use Rattle.rules.specs.Tables.{Table}
 use Rattle.rules.specs.declared.Policy.{Ghosts as Policy}
@@ -49,10 +49,13 @@ module _ {P L : Type 0} (policy : Policy P L) (before after : P) where
     pub record Goes (result : Result (Gone L) (Refused L)) : Type 0 where
       -- Under every table that the policy is true to, it answers and leaves what the go over that table does.
       pub performs : (table : Table L) → policy.faithful before table
-          → Performs kind (made_as parts.program st.sizes) (running_with st parts) (lent (Go fuel) (lengths parts) table)
+          → Performs kind (made_as parts.program st.sizes) (running_with st parts)
+          (lent (Go fuel) (lengths parts) table)
           (go_answer result) (gone_with result parts')
       pub still : StaysTrue policy before after
       pub asks : Questions result
-      -- Whatever the policy, it is refused for the first part that is not as long as when the station was made, and only then.
-      pub refuses : (part : Part) → misfit {L = L} st.sizes (Go fuel) (lengths parts) ≡ Some part → GivenBack part result
+      -- Whatever the policy, it is refused for the first part that is not as long as when the station was made,
+      -- and only then.
+      pub refuses : (part : Part) → misfit {L = L} st.sizes (Go fuel) (lengths parts) ≡ Some part
+          → GivenBack part result
       pub accepts : misfit {L = L} st.sizes (Go fuel) (lengths parts) ≡ None → Accepted st result

@@ -1,3 +1,4 @@
+-- What the contracts cite: lengths, views of stations, calls and goes.
 pub mod Lengths
 pub mod Views
 pub mod Calls

@@ -8,8 +8,8 @@ use labels::Label;
 use machine::{Labelled, Part, Refusal, Sizes};
 use steps::Window;
 
-// The place in the log of the first command, from a place on, that is at or below the clearance, of a station with this
-// window over its log.
+/// The place in the log of the first command, from a place on, that is at or below the clearance, of a station
+/// with this window over its log.
 pub fn next_command<L: Label>(
     sizes: Sizes,
     window: Window,

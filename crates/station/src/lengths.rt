@@ -7,7 +7,7 @@ ghost use Rattle.station.specs.Lengths.{checked, CellThere};
 
 use machine::{Entry, Labelled, Operation, Part, Refusal, Sizes};
 
-// How long the four parts handed in are.
+/// How long the four parts handed in are.
 pub fn sizes_of<L>(
     program: &[Operation<L>],
     memory: &[Labelled<L>],
@@ -35,7 +35,7 @@ fn check_limit(part: Part, len: usize) -> Result<(), Refusal>
     }
 }
 
-// Refuses the first part outside its limits.
+/// Refuses the first part outside its limits.
 pub fn check_limits(sizes: Sizes) -> Result<(), Refusal>
     ensures { result ≡ checked Limits (outside_limits sizes) }
 {
@@ -45,7 +45,7 @@ pub fn check_limits(sizes: Sizes) -> Result<(), Refusal>
     check_limit(Part::Log, sizes.log)
 }
 
-// Refuses a part with 2 unless it is as long as when the station was made.
+/// Refuses a part with 2 unless it is as long as when the station was made.
 pub fn check_length(part: Part, len: usize, made: usize) -> Result<(), Refusal>
     ensures { result ≡ checked Length (first_wrong (λ _. (len == made)) (part ∷ [])) }
 {
@@ -56,7 +56,7 @@ pub fn check_length(part: Part, len: usize, made: usize) -> Result<(), Refusal>
     }
 }
 
-// Refuses the first of the four parts that is not as long as when the station was made.
+/// Refuses the first of the four parts that is not as long as when the station was made.
 pub fn check_lengths(sizes: Sizes, made: Sizes) -> Result<(), Refusal>
     ensures { result ≡ checked Length (first_wrong (λ part. size_of sizes part == size_of made part) all_parts) }
 {
@@ -66,7 +66,7 @@ pub fn check_lengths(sizes: Sizes, made: Sizes) -> Result<(), Refusal>
     check_length(Part::Log, sizes.log, made.log)
 }
 
-// Refuses a cell outside a memory of so many.
+/// Refuses a cell outside a memory of so many.
 pub fn check_cell(cells: usize, cell: usize) -> Result<(), Refusal>
     ensures { CellThere cells cell result }
 {

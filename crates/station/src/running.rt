@@ -38,7 +38,8 @@ pub struct Refused<L> {
     pub station: Running<L>,
 }
 
-// The same registers, taken field by field: a copy of the whole would carry the bytes between the fields through every step.
+// The same registers, taken field by field: a copy of the whole would carry the bytes between the fields
+// through every step.
 #[inline(always)]
 fn by_fields<L: Copy>(registers: Registers<L>) -> Registers<L>
     ensures { result ≡ registers }
@@ -200,7 +201,8 @@ impl<L: Label> Running<L> {
 impl<L: Copy> Running<L> {
     ghost use Rattle.std.specs.Prelude.{◌≡◌};
 
-    /// The place and label of the program counter, how many entries of the stack are in use, and the window over the log.
+    /// The place and label of the program counter, how many entries of the stack are in use, and the window
+    /// over the log.
     pub fn registers(&self) -> Registers<L>
         ensures { result ≡ self.now.registers }
     {

@@ -1,3 +1,4 @@
+-- Lemmas on places, stacks, arguments and what an operation comes to.
 pub mod Places
 pub mod Stacks
 pub mod Inserts

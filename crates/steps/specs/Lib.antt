@@ -1,3 +1,4 @@
+-- What the contracts cite: places, windows, walks, operations and steps.
 pub mod Places
 pub mod Windows
 pub mod Walks

@@ -1,10 +1,11 @@
 -- What an operation and a step in code do, in the words of the definitions.
-use Rattle.std.specs.Prelude.{◌≡◌, ℕ, zero, suc, ◌≤◌, List, ◌++◌, length, ℤ, ◌⊎◌, Some, None, Ok, Err, Option, Result, IfOk, OnErr}
+use Rattle.std.specs.Prelude.{◌≡◌, ℕ, zero, suc, ◌≤◌, List, ◌++◌, length, ℤ, ◌⊎◌}
+use Rattle.std.specs.Prelude.{Some, None, Ok, Err, Option, Result, IfOk, OnErr}
 use Rattle.rules.specs.Tables.{Table}
 use Rattle.rules.specs.declared.Policy.{Ghosts as Policy}
 use Rattle.rules.specs.declared.Request.{Request}
 use Rattle.rules.specs.declared.Verdict.{Verdict}
-use Rattle.machine.specs.Steps.{Setup, Round, Contents, Outcome, made_of, ◌at◌, ruled}
+use Rattle.machine.specs.Steps.{Setup, Round, Contents, Outcome, made_of, ruled}
 use Rattle.machine.specs.declared.answers.End.{End}
 use Rattle.machine.specs.declared.answers.End.TheVariants.{Stopped}
 use Rattle.machine.specs.declared.answers.Stop.TheVariants.{Forbidden}
@@ -17,23 +18,25 @@ use Rattle.steps.specs.declared.registers.Fetched.{Fetched}
 use Rattle.steps.specs.declared.window.Window.{Window}
 
 module _ {L : Type 0} where
-  abbrev pub labelled : ℤ → L → Labelled L
-  labelled n l = n at l
-
-  abbrev pub registers : ℤ → L → ℕ → Window → Registers L
-  registers pc label depth window = record { pc = pc; pc_label = label; depth = depth; window = window }
+  abbrev pub registers_at : ℤ → L → ℕ → Window → Registers L
+  registers_at pc label depth window = record { pc = pc; pc_label = label; depth = depth; window = window }
 
   -- registers with so many entries in use
   abbrev pub starting : Registers L → ℕ → Registers L
-  starting start depth = registers start.pc start.pc_label depth start.window
+  starting start depth = registers_at start.pc start.pc_label depth start.window
 
   -- The registers at an operation of the program; the entries in use are handed to the operation.
   abbrev pub placed : Fetched L → ℕ → Registers L
-  placed f depth = registers f.pc.number f.pc_label depth f.window
+  placed f depth = registers_at f.pc.number f.pc_label depth f.window
 
   -- Registers with the parts that are lent, as the running station that the definitions speak of.
   abbrev pub round : Registers L → Contents L → Round L
-  round r parts = record { pc = r.pc; pc_label = r.pc_label; stack = newest r.depth parts.stack; kept = kept r.window parts }
+  round r parts = record {
+    pc = r.pc;
+    pc_label = r.pc_label;
+    stack = newest r.depth parts.stack;
+    kept = kept r.window parts;
+  }
 
   -- No more entries and commands are in use than stack and log hold.
   pub record InUse (r : Registers L) (parts : Contents L) : Type 0 where
@@ -74,25 +77,30 @@ module _ {P L : Type 0} (policy : Policy P L) where
   -- The policy was not asked and is as it was, or it was asked once, and the answer was heeded.
   abbrev pub AtMostOnce : P → P → (Option (Verdict L) → Type 0) → Type 0
   AtMostOnce before after Heeds =
-      (after ≡ before) ⊎ ((q : Request L) × ((answer : Option (Verdict L)) × (policy.asked before q answer after × Heeds answer)))
+      (after ≡ before)
+      ⊎ ((q : Request L)
+      × ((answer : Option (Verdict L)) × (policy.asked before q answer after × Heeds answer)))
 
   -- The policy was asked so many times at most, one after the other.
   abbrev pub AtMost : ℕ → P → P → Type 0
   AtMost zero before after = after ≡ before
-  AtMost (suc n) before after = (between : P) × (AtMost n before between × AtMostOnce between after (λ answer. Unit {0}))
+  AtMost (suc n) before after =
+      (between : P) × (AtMost n before between × AtMostOnce between after (λ answer. Unit {0}))
 
   -- The policy is true to each table that it was true to.
   abbrev pub StaysTrue : P → P → Type 0
   StaysTrue before after = (table : Table L) → policy.faithful before table → policy.faithful after table
 
   -- What holds of every table that a policy was true to; it is true to these still, and was asked at most once.
-  pub record AsksPolicy (before after : P) (Heeds : Option (Verdict L) → Type 0) (Holds : Table L → Type 0) : Type 0 where
+  pub record AsksPolicy (before after : P) (Heeds : Option (Verdict L) → Type 0)
+      (Holds : Table L → Type 0) : Type 0 where
     pub holds : (table : Table L) → policy.faithful before table → Holds table
     pub still : StaysTrue before after
     pub asks : AtMostOnce before after Heeds
 
   -- An operation or a step, with the policy and what the parts hold before and after it.
-  pub record Steps (before after : P) (parts parts' : Contents L) (start : Registers L) (answer : Result (Registers L) End)
+  pub record Steps (before after : P) (parts parts' : Contents L) (start : Registers L)
+      (answer : Result (Registers L) End)
       (defined : Table L → Setup L → Round L → Outcome L) : Type 0 where
     -- over every table that the policy is true to it comes to what is defined
     pub comes_to : (table : Table L) → policy.faithful before table

@@ -20,7 +20,9 @@ module _ {L : Type 0} where
 
   -- how a halt ends the round, whatever the parts hold
   abbrev pub Halts : Kind L → Registers L → End → Type 0
-  Halts kind start end = (table : Table L) (setup : Setup L) (parts : Contents L) → halted kind table setup (round start parts) ≡ Err end
+  Halts kind start end =
+      (table : Table L) (setup : Setup L) (parts : Contents L)
+      → halted kind table setup (round start parts) ≡ Err end
 
   -- how an operation ends the round without fuel, whatever the parts hold
   abbrev pub Unfuelled : Kind L → Operation L → Registers L → End → Type 0

@@ -1,6 +1,7 @@
 -- What the walks over the lent parts find.
 use Rattle.std.specs.Borrow.{Bor}
-use Rattle.std.specs.Prelude.{◌≡◌, ℕ, Bool, true, false, suc, ◌-◌, ◌<◌, List, [], ◌∷◌, reverse, length, take, ℤ, pos, Some, None, Ok, Err, Option, Result}
+use Rattle.std.specs.Prelude.{◌≡◌, ℕ, Bool, true, false, suc, ◌-◌, ◌<◌, List, [], ◌∷◌, reverse}
+use Rattle.std.specs.Prelude.{length, take, ℤ, pos, Some, None, Ok, Err, Option, Result}
 use Rattle.machine.specs.Steps.{Outcome, stopped, at_place, taking, nearest_frame}
 use Rattle.machine.specs.declared.answers.End.{End}
 use Rattle.machine.specs.declared.answers.Stop.TheVariants.{OutsideMemory}
@@ -44,7 +45,8 @@ module _ {L : Type 0} where
   -- The same for the two numbers on top, the lower one first.
   abbrev pub TakesTopTwo : List (Entry L) → Result (Labelled L × Labelled L) End → Type 0
   TakesTopTwo used (Ok two) = (1 < length used) × ((then : Labelled L → Labelled L → List (Entry L) → Outcome L)
-      → taking (stack_of used) (λ a rest. taking rest (λ b rest. then b a rest)) ≡ then two.0 two.1 (newest (length used - 2) used))
+      → taking (stack_of used) (λ a rest. taking rest (λ b rest. then b a rest))
+      ≡ then two.0 two.1 (newest (length used - 2) used))
   TakesTopTwo used (Err end) = (then : Labelled L → Labelled L → List (Entry L) → Outcome L)
       → taking (stack_of used) (λ a rest. taking rest (λ b rest. then b a rest)) ≡ Err end
 
@@ -60,4 +62,6 @@ module _ {L : Type 0} where
   abbrev pub FindsFrame : List (Entry L) → Result (Found (ReturnFrame L)) End → Type 0
   FindsFrame used (Ok found) = (found.index < length used) × ((then : ReturnFrame L → List (Entry L) → Outcome L)
       → nearest_frame (stack_of used) then ≡ then found.element (newest found.index used))
-  FindsFrame used (Err end) = (then : ReturnFrame L → List (Entry L) → Outcome L) → nearest_frame (stack_of used) then ≡ Err end
+  FindsFrame used (Err end) =
+      (then : ReturnFrame L → List (Entry L) → Outcome L)
+      → nearest_frame (stack_of used) then ≡ Err end

@@ -1,4 +1,4 @@
-// One step of a running station: the registers, the window over the log, the walks over the lent parts, and the operations.
+// One step of a running station: registers, the window over the log, walks over the lent parts, operations.
 #![tactic(auto)]
 
 mod operations;

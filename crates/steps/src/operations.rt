@@ -1,12 +1,16 @@
-// The operations. An operation gives the registers after it, or the stop. Each is lent just the parts that it reaches, and of the
-// stack the entries in use as a slice of their own: there is no depth to require anything of, and nothing that a struct of all
-// parts would keep; it would lend each operation more than it reaches.
+// The operations: each gives the registers after it, or the end.
+//
+// Each is lent just the parts that it reaches, and of the stack the entries in use as a slice of their own: there is no
+// depth to require anything of, and nothing that a struct of all parts would keep; it would lend each operation more
+// than it reaches.
 ghost use Rattle.std.specs.Prelude.{◌≡◌, ◌+◌, ◌^◌, ◌<◌, ◌≤◌, true, false, length, ℤ, pos, ◌+ℤ◌, FitsSigned};
 ghost use Rattle.std.specs.Int.{w32};
 ghost use Rattle.rules.specs.Tables.{request as request_of};
-ghost use Rattle.machine.specs.Steps.{tried, arithmetic as arithmetic_on, return_to};
-ghost use Rattle.machine.specs.declared.parts.Operation.TheVariants.{Push, Pop, Noop, Load, Store, Jump, Bnz, Call, Return, Output};
-ghost use Rattle.steps.specs.Operations.{labelled as labelled_with, registers as registers_of, placed, starting, Rules, Heeded, AsksPolicy, Operates, with_memory, with_stack, with_used, with_log};
+ghost use Rattle.machine.specs.Steps.{◌at◌, tried, arithmetic, return_to};
+ghost use Rattle.machine.specs.declared.parts.Operation.TheVariants.{Push, Pop, Noop, Load, Store};
+ghost use Rattle.machine.specs.declared.parts.Operation.TheVariants.{Jump, Bnz, Call, Return, Output};
+ghost use Rattle.steps.specs.Operations.{registers_at, placed, starting, Rules, Heeded, AsksPolicy};
+ghost use Rattle.steps.specs.Operations.{Operates, with_memory, with_stack, with_used, with_log};
 ghost use Rattle.steps.specs.Walks.{newest};
 
 use crate::registers::{Fetched, Registers};
@@ -21,7 +25,7 @@ use rules::{Opcode, Policy, Request, Verdict};
 // The same number with another label.
 #[inline(always)]
 fn relabelled<L: Copy>(number: Labelled<L>, label: L) -> Labelled<L>
-    ensures { result ≡ labelled_with number.value label }
+    ensures { result ≡ (number.value at label) }
 {
     Labelled { label, ..number }
 }
@@ -53,7 +57,7 @@ impl<L: Label> Fetched<L> {
     // The registers at a place, with this label and so many entries in use.
     #[inline(always)]
     fn goto(self, pc: i64, pc_label: L, depth: usize) -> Registers<L>
-        ensures { result ≡ registers_of pc pc_label depth self.window }
+        ensures { result ≡ registers_at pc pc_label depth self.window }
     {
         Registers {
             pc,
@@ -66,7 +70,7 @@ impl<L: Label> Fetched<L> {
     // On to the next place.
     #[inline(always)]
     fn next(self, pc_label: L, depth: usize) -> Registers<L>
-        ensures { result ≡ registers_of (self.pc.number +ℤ pos 1) pc_label depth self.window }
+        ensures { result ≡ registers_at (self.pc.number +ℤ pos 1) pc_label depth self.window }
     {
         self.goto(self.pc.next(), pc_label, depth)
     }
@@ -149,7 +153,7 @@ impl<L: Label> Fetched<L> {
             → ((b a r : ℤ) → FitsSigned w32 b → FitsSigned w32 a → F.post combine b a r → r ≡ applied b a)
             → Operates P.Policy policy.old policy.new (with_used used.old) (with_used used.new)
             (placed self (length used.old)) result
-            (λ table setup. arithmetic_on L.Label.kind table setup op applied) }
+            (λ table setup. arithmetic L.Label.kind table setup op applied) }
     {
         let (b, a) = top_two(used)?;
         let depth = used.len() - 1;

@@ -12,7 +12,8 @@ pub struct Registers<L> {
     pub window: Window,
 }
 
-// The registers at an operation of the program. The entries in use are handed to the operation, so their number is left out.
+/// The registers at an operation of the program. The entries in use are handed to the operation, so their
+/// number is left out.
 #[derive(Clone, Copy, Debug, PartialEq, Eq)]
 pub struct Fetched<L> {
     pub pc: Place,

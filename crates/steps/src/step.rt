@@ -99,8 +99,9 @@ impl<L: Label> Registers<L> {
         }
     }
 
-    /// One step with so much fuel left: the registers after the operation that was done, or the end. A station holds none
-    /// of its four parts: program, memory, stack and log are lent to each step, so they are parameters.
+    /// One step with so much fuel left: the registers after the operation that was done, or the end. A station
+    /// holds none of its four parts: program, memory, stack and log are lent to each step, so they are
+    /// parameters.
     pub fn step<P: Policy<L>>(
         self,
         program: &[Operation<L>],

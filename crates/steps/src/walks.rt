@@ -1,21 +1,23 @@
 // Walks over the lent parts: an element by its place, the numbers on top of the entries in use, their nearest frame.
+//
 // What passes a number on is always inlined: else a label of two fields is packed into one word and taken apart again
 // at each step.
 ghost use Rattle.std.specs.Prelude.{◌≡◌, ◌-◌, ◌<◌, ◌≤◌, ◌^◌, ◌∷◌, ◌++◌, reverse, length, take, drop, nat_le};
 ghost use Rattle.std.specs.List.{list_all};
 ghost use Rattle.machine.specs.declared.parts.Entry.TheVariants.{Number};
-ghost use Rattle.steps.specs.Walks.{newest, is_number, numbers_on_top, stack_of, TakesTop, TakesTopTwo, FindsFrame, Finds, FindsCell};
+ghost use Rattle.steps.specs.Walks.{newest, is_number, numbers_on_top, stack_of};
+ghost use Rattle.steps.specs.Walks.{TakesTop, TakesTopTwo, FindsFrame, Finds, FindsCell};
 
 use machine::{End, Entry, Frame, Labelled, Stop};
 
-// An element of a part, and where it stands.
+/// An element of a part, and where it stands.
 #[derive(Clone, Copy, Debug, PartialEq, Eq)]
 pub struct Found<T> {
     pub index: usize,
     pub element: T,
 }
 
-// The element at a place, which may be outside.
+/// The element at a place, which may be outside.
 #[inline(always)]
 pub fn find<T>(part: &[T], place: i64) -> Option<Found<&T>>
     requires { length part.now ≤ 2 ^ 63 }
@@ -27,7 +29,7 @@ pub fn find<T>(part: &[T], place: i64) -> Option<Found<&T>>
     Some(Found { index, element })
 }
 
-// The cell at an address.
+/// The cell at an address.
 #[inline(always)]
 pub fn find_cell<L: Copy>(
     memory: &[Labelled<L>],
@@ -44,7 +46,7 @@ pub fn find_cell<L: Copy>(
     }
 }
 
-// The top number, which must lie above the nearest frame.
+/// The top number, which must lie above the nearest frame.
 #[inline(always)]
 pub fn top_number<L: Copy>(used: &[Entry<L>]) -> Result<Labelled<L>, End>
     ensures { TakesTop used.now result }
@@ -55,7 +57,7 @@ pub fn top_number<L: Copy>(used: &[Entry<L>]) -> Result<Labelled<L>, End>
     }
 }
 
-// The top two numbers, the lower one first, which must both lie above the nearest frame.
+/// The top two numbers, the lower one first, which must both lie above the nearest frame.
 #[inline(always)]
 pub fn top_two<L: Copy>(used: &[Entry<L>]) -> Result<(Labelled<L>, Labelled<L>), End>
     ensures { TakesTopTwo used.now result }
@@ -77,7 +79,7 @@ fn read<L: Copy>(number: &Labelled<L>) -> Labelled<L>
     }
 }
 
-// Writes a number by its fields.
+/// Writes a number by its fields.
 #[inline(always)]
 pub fn write<L: Copy>(place: &mut Labelled<L>, number: Labelled<L>)
     ensures { place.new ≡ number }
@@ -86,7 +88,8 @@ pub fn write<L: Copy>(place: &mut Labelled<L>, number: Labelled<L>)
     place.label = number.label;
 }
 
-// Writes a number in an entry's place. Where a number stands, its fields are enough: a whole entry has room for a frame.
+/// Writes a number in an entry's place. Where a number stands, its fields are enough: a whole entry has room
+/// for a frame.
 #[inline(always)]
 pub fn write_entry<L: Copy>(entry: &mut Entry<L>, number: Labelled<L>)
     ensures { entry.new ≡ Number number }
@@ -107,14 +110,14 @@ fn are_numbers<L: Copy>(used: &[Entry<L>], count: usize) -> bool
         .all(|entry| matches!(entry, Entry::Number(_)))
 }
 
-// Whether so many numbers lie above the nearest frame.
+/// Whether so many numbers lie above the nearest frame.
 pub fn has_numbers<L: Copy>(used: &[Entry<L>], count: usize) -> bool
     ensures { result ≡ nat_le count (numbers_on_top (stack_of used.now)) }
 {
     count <= used.len() && are_numbers(used, count)
 }
 
-// The nearest frame.
+/// The nearest frame.
 #[inline(always)]
 pub fn nearest_frame<L: Copy>(used: &[Entry<L>]) -> Result<Found<Frame<L>>, End>
     ensures { FindsFrame used.now result }
@@ -127,7 +130,7 @@ pub fn nearest_frame<L: Copy>(used: &[Entry<L>]) -> Result<Found<Frame<L>>, End>
     Err(End::Stopped(Stop::NoFrame))
 }
 
-// Takes the last element off, and puts another under the `count` before it, each of which moves up by one place.
+/// Takes the last element off, and puts another under the `count` before it, each of which moves up by one place.
 pub fn insert_under<T: Copy>(part: &mut [T], count: usize, element: T)
     requires { count < length part.old }
     ensures { let below = newest (length part.old - 1) part.old in

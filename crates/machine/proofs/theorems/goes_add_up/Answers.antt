@@ -1,3 +1,4 @@
+-- The law of one go after another, as it is proved in `Goes`.
 use Rattle.machine.proofs.Goes.{goes_add_up}
 use Rattle.machine.proofs.theorems.goes_add_up.Goals as goal
 

@@ -1,3 +1,4 @@
+-- Noninterference, as it is proved in `Secrecy`.
 use Rattle.machine.proofs.Secrecy.{noninterference}
 use Rattle.machine.proofs.theorems.noninterference.Goals as goal
 

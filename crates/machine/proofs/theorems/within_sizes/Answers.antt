@@ -1,3 +1,4 @@
+-- The law of depth and commands, as it is proved in `Room`.
 use Rattle.machine.proofs.Room.{within_sizes}
 use Rattle.machine.proofs.theorems.within_sizes.Goals as goal
 

@@ -1,3 +1,4 @@
+-- The policy is asked once, and its answer is handed on.
 use Rattle.steps.proofs.Doing.{asks_once}
 use Rattle.steps.proofs.operations.ask.Goals as goal
 

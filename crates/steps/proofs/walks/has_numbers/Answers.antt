@@ -1,3 +1,4 @@
+-- The count of numbers on top, by whether there are so many entries.
 use Rattle.std.proofs.Common.{leb, length, reverse, sym, ap, ◌∙◌, take_all, arith}
 use Rattle.std.proofs.lemmas.Bool.{lt-leb}
 use Rattle.std.proofs.lemmas.List.{length-reverse}
@@ -17,4 +18,6 @@ returns-else-count-used g c =
     let used = c.args.used.now in
     let top = newest (length used) used in
     lt-leb c.args.count (length used) (omega arith)
-    ∙ sym (lt-leb c.args.count (numbers_on_top top) (omega (arith, numbers_within top, length_newest (length used) used (omega arith))))
+    ∙ sym
+    (lt-leb c.args.count (numbers_on_top top)
+    (omega (arith, numbers_within top, length_newest (length used) used (omega arith))))

@@ -1,3 +1,4 @@
+-- The list after the copy and the write is the one with the element put in.
 use Rattle.std.proofs.Common.{◌≡◌, ◌+◌, ◌-◌, length, arith}
 use Rattle.steps.proofs.Inserts.{under_at}
 use Rattle.steps.proofs.walks.insert_under.Goals as goal

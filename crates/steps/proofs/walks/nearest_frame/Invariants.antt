@@ -1,3 +1,4 @@
+-- The walk for the nearest frame: what it has passed holds none.
 use Rattle.std.proofs.Common.{◌≡◌, List, length, take}
 use Rattle.machine.specs.Steps.{Outcome, nearest_frame}
 use Rattle.machine.specs.declared.parts.Frame.{Frame as ReturnFrame}

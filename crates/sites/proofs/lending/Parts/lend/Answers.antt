@@ -18,4 +18,5 @@ pub returns-in-Go-clause-unasked : goal.returns-in-Go-clause-unasked
 returns-in-Go-clause-unasked g c = rw c.in-Go.is c.go.ensures.unasked
 
 pub returns-in-NextCommand-clause-hands : goal.returns-in-NextCommand-clause-hands
-returns-in-NextCommand-clause-hands g c = rw c.in-NextCommand.is (any_policy g.L.Label.kind _ c.next_command-reply.ensures)
+returns-in-NextCommand-clause-hands g c =
+    rw c.in-NextCommand.is (any_policy g.L.Label.kind _ c.next_command-reply.ensures)

@@ -1,3 +1,4 @@
+-- A station is made, and noninterference holds.
 use Rattle.machine.proofs.Secrecy.{noninterference}
 use Rattle.station.proofs.idle.Idle.make.Goals as goal
 

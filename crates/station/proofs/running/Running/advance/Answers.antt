@@ -1,5 +1,4 @@
 -- One step of a go: an end is handed on.
-use Rattle.std.proofs.Common.{Err, sym, ap, ◌∙◌, subst}
 use Rattle.std.proofs.lemmas.Result.{err_from_is_err_and}
 use Rattle.station.proofs.running.Running.advance.Goals as goal
 

@@ -16,12 +16,18 @@ returns-in-Err-clause-runs g c table true =
     let same = same_made first here refl c.loop-left.auto.memory c.loop-left.auto.stack c.loop-left.auto.log in
     let s = round c.loop-left.self.registers here in
     let stepped = c.in-Err.ensures.steps in
-    let came = ap (λ setup. step kind table setup left s) (sym same) ∙ sym (stepped.comes_to table (so_far.still table true)) in
-    ends kind (made_of first) table c.args.fuel left (round c.args.self.now.registers first) s c.in-Err.end (so_far.runs table true) came
-    ∙ ap (λ s. gone_to (ended c.in-Err.end s) (c.args.fuel - left)) (sym (ap₂ (λ st parts. round st.registers parts) c.in-Err.ensures.kept stepped.keeps))
+    let came =
+    ap (λ setup. step kind table setup left s) (sym same)
+    ∙ sym (stepped.comes_to table (so_far.still table true)) in
+    ends kind (made_of first) table c.args.fuel left (round c.args.self.now.registers first) s
+    c.in-Err.end (so_far.runs table true) came
+    ∙ ap (λ s. gone_to (ended c.in-Err.end s) (c.args.fuel - left))
+    (sym (ap₂ (λ st parts. round st.registers parts) c.in-Err.ensures.kept stepped.keeps))
 
 pub returns-in-Err-clause-asks : goal.returns-in-Err-clause-asks
-returns-in-Err-clause-asks g c = asked_last g.P.Policy c.args.policy.now c.loop-left.policy c.advance.new.policy _ c.loop-left.invariant.asks c.advance.ensures.steps.asks
+returns-in-Err-clause-asks g c =
+    asked_last g.P.Policy c.args.policy.now c.loop-left.policy c.advance.new.policy _
+    c.loop-left.invariant.asks c.advance.ensures.steps.asks
 
 pub loop-left-preserved : goal.loop-left-preserved
 loop-left-preserved g c =
@@ -37,11 +43,17 @@ loop-left-preserved g c =
     record {
       left = omega (arith, so_far.left);
       sizes = c.advance.ensures.sizes ∙ so_far.sizes;
-      asks = asked_on g.P.Policy c.args.policy.now c.loop-left.policy c.advance.new.policy c.args.fuel left so_far.left c.loop-left-test.true so_far.asks c.advance.ensures.steps.asks;
+      asks =
+          asked_on g.P.Policy c.args.policy.now c.loop-left.policy c.advance.new.policy c.args.fuel
+          left so_far.left c.loop-left-test.true so_far.asks c.advance.ensures.steps.asks;
       still = λ table true. c.advance.ensures.steps.still table (so_far.still table true);
       runs = λ table true.
-          let came = ap (λ setup. step kind table setup left s) (sym same) ∙ sym (stepped.comes_to table (so_far.still table true)) in
-          goes_on kind (made_of first) table c.args.fuel left (round c.args.self.now.registers first) s (round c.advance.new.self.registers then) (so_far.runs table true) so_far.left c.loop-left-test.true came;
+          let came =
+          ap (λ setup. step kind table setup left s) (sym same)
+          ∙ sym (stepped.comes_to table (so_far.still table true)) in
+          goes_on kind (made_of first) table c.args.fuel left
+          (round c.args.self.now.registers first) s (round c.advance.new.self.registers then)
+          (so_far.runs table true) so_far.left c.loop-left-test.true came;
     }
 
 pub returns-clause-runs : goal.returns-clause-runs
@@ -53,8 +65,11 @@ returns-clause-runs g c table true =
     let same = same_made first here refl c.loop-left.auto.memory c.loop-left.auto.stack c.loop-left.auto.log in
     let s = round c.loop-left.self.registers here in
     let came = ap (λ setup. step kind table setup 0 s) (sym same) ∙ c.step_without_fuel.ensures table here refl in
-    rests kind (made_of first) table c.args.fuel c.loop-left.left (round c.args.self.now.registers first) s c.step_without_fuel.result (so_far.runs table true) (omega arith) came
+    rests kind (made_of first) table c.args.fuel c.loop-left.left
+    (round c.args.self.now.registers first) s c.step_without_fuel.result
+    (so_far.runs table true) (omega arith) came
 
 pub returns-clause-asks : goal.returns-clause-asks
 returns-clause-asks g c =
-    not_asked g.P.Policy c.args.policy.now c.loop-left.policy (c.args.fuel - c.loop-left.left) c.args.fuel (omega arith) c.loop-left.invariant.asks
+    not_asked g.P.Policy c.args.policy.now c.loop-left.policy (c.args.fuel - c.loop-left.left)
+    c.args.fuel (omega arith) c.loop-left.invariant.asks

@@ -15,8 +15,12 @@ invariant-loop-left g l = record {
   asks : AtMost g.P.Policy (l.fn.fuel - l.left) l.fn.policy l.policy;
   still : StaysTrue g.P.Policy l.fn.policy l.policy;
   runs : (table : Table g.row.L.Denot) → g.P.Policy.faithful l.fn.policy table
-      → run_steps g.L.Label.kind (made_of (contents l.program l.fn.memory l.fn.stack l.fn.log)) table l.fn.fuel (round l.fn.self.registers (contents l.program l.fn.memory l.fn.stack l.fn.log))
-      ≡ after_more (l.fn.fuel - l.left) (run_steps g.L.Label.kind (made_of (contents l.program l.fn.memory l.fn.stack l.fn.log)) table l.left (round l.self.registers (contents l.program l.memory l.stack l.log)));
+      → run_steps g.L.Label.kind (made_of (contents l.program l.fn.memory l.fn.stack l.fn.log))
+      table l.fn.fuel
+      (round l.fn.self.registers (contents l.program l.fn.memory l.fn.stack l.fn.log))
+      ≡ after_more (l.fn.fuel - l.left)
+      (run_steps g.L.Label.kind (made_of (contents l.program l.fn.memory l.fn.stack l.fn.log))
+      table l.left (round l.self.registers (contents l.program l.memory l.stack l.log)));
 }
 
 abbrev pub decreases-loop-left : goal.decreases-loop-left

@@ -1,3 +1,4 @@
+-- A noop, by whether the policy allows it.
 use Rattle.std.proofs.Common.{sym, Ok, Err}
 use Rattle.steps.proofs.Doing.{asked, hands_on, does, allowed, forbidden}
 use Rattle.steps.proofs.registers.Fetched.noop.Goals as goal
@@ -10,4 +11,5 @@ returns-in_err-verdict g c rest room =
 pub returns : goal.returns
 returns g c rest room =
     let asks = asked (λ q. q) (Ok c.in_ok-verdict.verdict) c.request.ensures c.in_ok-verdict.ensures in
-    does c.next.ensures (allowed c.in_ok-verdict.verdict asks) room.depth room.commands (λ table true. sym (asks.holds table true _))
+    does c.next.ensures (allowed c.in_ok-verdict.verdict asks) room.depth room.commands
+    (λ table true. sym (asks.holds table true _))

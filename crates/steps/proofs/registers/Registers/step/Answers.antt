@@ -11,7 +11,10 @@ returns-in_err-op-clause-steps g c =
     let outside = rw c.in_err-op.was at c.fetch.ensures in
     let parts = contents c.args.program.now c.args.memory.now c.args.stack.now c.args.log.now in
     hands_on c.from_residual.ensures.1 unasked
-    (λ table true. steps_outside g.L.Label.kind table (made_of parts) (round c.args.self parts) c.args.fuel outside.0 ∙ ap Err (sym outside.1))
+    (λ table true.
+    steps_outside g.L.Label.kind table (made_of parts) (round c.args.self parts) c.args.fuel
+    outside.0
+    ∙ ap Err (sym outside.1))
 
 pub returns-then-fuel-eq0-clause-steps : goal.returns-then-fuel-eq0-clause-steps
 returns-then-fuel-eq0-clause-steps g c =

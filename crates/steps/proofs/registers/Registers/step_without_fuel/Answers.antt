@@ -9,7 +9,9 @@ pub returns-in-Err : goal.returns-in-Err
 returns-in-Err g c table parts is =
     let outside = rw c.in-Err.is at c.fetch.ensures in
     let s = round c.args.self parts in
-    steps_outside g.L.Label.kind table (made_of parts) s 0 (ap (λ p. at_place p s.pc None Some) is ∙ outside.0) ∙ ap Err (sym outside.1)
+    steps_outside g.L.Label.kind table (made_of parts) s 0
+    (ap (λ p. at_place p s.pc None Some) is ∙ outside.0)
+    ∙ ap Err (sym outside.1)
 
 pub returns-in-Ok : goal.returns-in-Ok
 returns-in-Ok g c table parts is =
