@@ -12,9 +12,9 @@ use Rattle.machine.specs.declared.parts.Sizes.{Sizes}
 use Rattle.steps.specs.Operations.{round, AtMost, StaysTrue}
 use Rattle.station.specs.Goes.{Goes}
 use Rattle.station.specs.Lengths.{checked}
-use Rattle.station.specs.Turns.{Runs, Settles, ended}
-use Rattle.station.specs.Views.{made_as, made_sizes}
-use Rattle.station.specs.declared.any.Station.{Station as StationCode}
+use Rattle.station.specs.Turns.{Runs}
+use Rattle.station.specs.Views.{made_as, made_sizes, station_with}
+use Rattle.station.specs.declared.running.Gone.{Gone as GoneCode}
 use Rattle.station.specs.declared.running.Running.{Running}
 use Rattle.station.proofs.Fitting.{not_as_made, no_misfit, as_made, fitted}
 
@@ -64,19 +64,19 @@ module _ {P L : Type 0} (policy : Policy P L) {before : P} (kind : Kind L) {part
         accepts = λ none. absurd (never_none wrong checks none);
       }
 
-  pub go_ran : {after : P} {parts' : Contents L} (st' : Running L) (ran : End × ℕ) (left : StationCode L)
+  pub go_ran : {after : P} {parts' : Contents L} (gone : GoneCode L)
       → Ok tt ≡ checked Length (not_as_made st.sizes lens)
-      → Runs policy kind before parts parts' fuel st st' ran → StaysTrue policy before after
-      → Settles st' ran.0 left → made_sizes left ≡ st.sizes → AtMost policy (ran.1 + 1) before after
-      → Goes policy before after kind parts parts' fuel st (Ok (record { station = left; steps = ran.1 }))
-  go_ran {parts' = parts'} st' ran left checks runs still settles keeps asks =
+      → Runs policy kind before parts parts' fuel st gone → StaysTrue policy before after
+      → made_sizes gone.station ≡ st.sizes → AtMost policy (gone.steps + 1) before after
+      → Goes policy before after kind parts parts' fuel st (Ok gone)
+  go_ran {parts' = parts'} gone checks runs still keeps asks =
       let fits = ap (not_as_made st.sizes) (sym lens_are) ∙ no_misfit _ checks in
       let same = as_long st.sizes lens_are checks in
       record {
         performs = λ table true.
             let went : run_steps kind (made_as parts.program st.sizes) table fuel
             (round st.registers parts)
-            ≡ record { station = ended ran.0 (round st'.registers parts'); steps = ran.1 }
+            ≡ record { station = station_with gone.station parts'; steps = gone.steps }
             = ap
             (λ s.
             run_steps kind (made_as parts.program s) table fuel (round st.registers parts))
@@ -84,7 +84,7 @@ module _ {P L : Type 0} (policy : Policy P L) {before : P} (kind : Kind L) {part
             ∙ runs table true in
             fitted kind (made_as parts.program st.sizes) _ _ fits
             (ap (λ gone. took gone.steps) (sym went))
-            (settles parts' ∙ ap (λ gone. gone.station) (sym went));
+            (ap (λ gone. gone.station) (sym went));
         still = still;
         asks = asks;
         refuses = λ part is. cc (sym is ∙ fits);

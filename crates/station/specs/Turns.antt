@@ -11,6 +11,7 @@ use Rattle.steps.specs.Operations.{round}
 use Rattle.steps.specs.declared.registers.Registers.{Registers}
 use Rattle.station.specs.Views.{station_with}
 use Rattle.station.specs.declared.any.Station.{Station as StationCode}
+use Rattle.station.specs.declared.running.Gone.{Gone}
 use Rattle.station.specs.declared.running.Running.{Running}
 
 module _ {L : Type 0} where
@@ -31,7 +32,7 @@ module _ {L : Type 0} where
 
 -- The steps of a go: over every table that the policy is true to they are those that are defined.
 abbrev pub Runs : {P L : Type 0} → Policy P L → Kind L → P → Contents L → Contents L → ℕ → Running L
-    → Running L → End × ℕ → Type 0
-Runs {P} {L} policy kind before parts parts' fuel st st' ran = (table : Table L) → policy.faithful before table
+    → Gone L → Type 0
+Runs {P} {L} policy kind before parts parts' fuel st gone = (table : Table L) → policy.faithful before table
     → run_steps kind (made_of parts) table fuel (round st.registers parts)
-    ≡ record { station = ended ran.0 (round st'.registers parts'); steps = ran.1 }
+    ≡ record { station = station_with gone.station parts'; steps = gone.steps }

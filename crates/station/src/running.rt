@@ -89,11 +89,7 @@ impl<L: Label> Running<L> {
             return Err(Refused { why, station: self });
         }
         let mut station = self;
-        let (end, steps) = station.run(program, memory, stack, log, policy, fuel);
-        Ok(Gone {
-            station: station.settle(end),
-            steps,
-        })
+        Ok(station.run(program, memory, stack, log, policy, fuel))
     }
 
     /// The place in the log of the first command, from a place on, that is at or below the clearance. Refused for a log
@@ -112,7 +108,7 @@ impl<L: Label> Running<L> {
         next_command(self.sizes, self.registers.window, log, from, clearance)
     }
 
-    // Takes steps until one comes to an end: the end, and how many steps there were.
+    // Takes steps until one comes to an end, and settles the station by it.
     fn run<P: Policy<L>>(
         &mut self,
         program: &[Operation<L>],
@@ -121,24 +117,31 @@ impl<L: Label> Running<L> {
         log: &mut [Labelled<L>],
         policy: &mut P,
         fuel: u32,
-    ) -> (End, u32)
+    ) -> Gone<L>
         requires as_made { self.old.sizes ≡ lengths (contents program.now memory.old stack.old log.old) }
         ensures runs { Runs P.Policy L.Label.kind policy.old
             (contents program.now memory.old stack.old log.old)
             (contents program.now memory.new stack.new log.new)
-            fuel self.old self.new result }
+            fuel self.old result }
         ensures still { StaysTrue P.Policy policy.old policy.new }
-        ensures asks { AtMost P.Policy (result.1 + 1) policy.old policy.new }
-        ensures sizes { self.new.sizes ≡ self.old.sizes }
+        ensures asks { AtMost P.Policy (result.steps + 1) policy.old policy.new }
+        ensures sizes { made_sizes result.station ≡ self.old.sizes }
     {
         let mut left = fuel;
         while left > 0 {
             if let Err(end) = self.advance(program, memory, stack, log, policy, left) {
-                return (end, fuel - left);
+                return Gone {
+                    station: self.settle(end),
+                    steps: fuel - left,
+                };
             }
             left -= 1;
         }
-        (self.registers.step_without_fuel(program), fuel)
+        let end = self.registers.step_without_fuel(program);
+        Gone {
+            station: self.settle(end),
+            steps: fuel,
+        }
     }
 
     // Takes one step, and stands after it, or where it stood if that is an end.
@@ -173,9 +176,10 @@ impl<L: Label> Running<L> {
     }
 
     // The station after a go that ended so.
-    fn settle(self, end: End) -> Station<L>
-        ensures settled { Settles self end result }
-        ensures sizes { made_sizes result ≡ self.sizes }
+    #[inline(always)]
+    fn settle(&self, end: End) -> Station<L>
+        ensures settled { Settles self.now end result }
+        ensures sizes { made_sizes result ≡ self.now.sizes }
     {
         match end {
             End::Finished => Station::Idle(Idle {

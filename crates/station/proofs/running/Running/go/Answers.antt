@@ -8,12 +8,11 @@ returns-in-Err g c =
     go_refused g.P.Policy g.L.Label.kind c.args.fuel c.args.self c.sizes_of.ensures c.in-Err.why
     c.in-Err.ensures
 
-pub run-end-requires : goal.run-end-requires
-run-end-requires g c = record { as_made = as_long c.args.self.sizes c.sizes_of.ensures c.in_default.ensures }
+pub run-requires : goal.run-requires
+run-requires g c = record { as_made = as_long c.args.self.sizes c.sizes_of.ensures c.in_default.ensures }
 
 pub returns : goal.returns
 returns g c =
-    let runs = c.run-end.ensures in
-    go_ran g.P.Policy g.L.Label.kind c.args.fuel c.args.self c.sizes_of.ensures c.run-end.new.self
-    c.run-end.result c.settle.result c.in_default.ensures runs.runs runs.still
-    c.settle.ensures.settled (c.settle.ensures.sizes ∙ runs.sizes) runs.asks
+    let runs = c.run.ensures in
+    go_ran g.P.Policy g.L.Label.kind c.args.fuel c.args.self c.sizes_of.ensures c.run.result
+    c.in_default.ensures runs.runs runs.still runs.sizes runs.asks

@@ -13,6 +13,7 @@ returns-in-Err-clause-runs g c table true =
     let left = c.loop-left.left in
     let first = contents c.args.program.now c.args.memory.now c.args.stack.now c.args.log.now in
     let here = contents c.args.program.now c.loop-left.memory c.loop-left.stack c.loop-left.log in
+    let then = contents c.args.program.now c.advance.new.memory c.advance.new.stack c.advance.new.log in
     let same = same_made first here refl c.loop-left.auto.memory c.loop-left.auto.stack c.loop-left.auto.log in
     let s = round c.loop-left.self.registers here in
     let stepped = c.in-Err.ensures.steps in
@@ -23,6 +24,7 @@ returns-in-Err-clause-runs g c table true =
     c.in-Err.end (so_far.runs table true) came
     ∙ ap (λ s. gone_to (ended c.in-Err.end s) (c.args.fuel - left))
     (sym (ap₂ (λ st parts. round st.registers parts) c.in-Err.ensures.kept stepped.keeps))
+    ∙ ap (λ st. gone_to st (c.args.fuel - left)) (sym (c.settle.ensures.settled then))
 
 pub returns-in-Err-clause-asks : goal.returns-in-Err-clause-asks
 returns-in-Err-clause-asks g c =
@@ -64,10 +66,11 @@ returns-clause-runs g c table true =
     let here = contents c.args.program.now c.loop-left.memory c.loop-left.stack c.loop-left.log in
     let same = same_made first here refl c.loop-left.auto.memory c.loop-left.auto.stack c.loop-left.auto.log in
     let s = round c.loop-left.self.registers here in
-    let came = ap (λ setup. step kind table setup 0 s) (sym same) ∙ c.step_without_fuel.ensures table here refl in
+    let came = ap (λ setup. step kind table setup 0 s) (sym same) ∙ c.step_without_fuel-end.ensures table here refl in
     rests kind (made_of first) table c.args.fuel c.loop-left.left
-    (round c.args.self.now.registers first) s c.step_without_fuel.result
+    (round c.args.self.now.registers first) s c.step_without_fuel-end.result
     (so_far.runs table true) (omega arith) came
+    ∙ ap (λ st. gone_to st c.args.fuel) (sym (c.settle-2.ensures.settled here))
 
 pub returns-clause-asks : goal.returns-clause-asks
 returns-clause-asks g c =
