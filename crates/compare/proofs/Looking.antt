@@ -23,23 +23,19 @@ module _ {L : Type 0} where
   -- A reply that says what a look is answered is the one that shows or refuses it.
   says_shown : (r : Reply L) (left : Station L) (v : Labelled L) → Says r (shows v) left → r ≡ reply.Shown v
   says_shown reply.Entered left v says = cc says.0
-  says_shown (reply.Shown w) left v says = cc says
   says_shown reply.Started left v says = cc says.0
   says_shown (reply.Gone steps told) left v says = cc says.0
-  says_shown (reply.Found place) left v says = cc says
-  says_shown (reply.Refused why) left v says = cc says
   says_shown (reply.NotTaken told) left v says = absurd says
   says_shown reply.NotLent left v says = absurd says
+  says_shown r left v says = cc says
 
   says_refused : (r : Reply L) (left : Station L) (why : Refusal) → Says r (refused why) left → r ≡ reply.Refused why
   says_refused reply.Entered left why says = cc says.0
-  says_refused (reply.Shown w) left why says = cc says
   says_refused reply.Started left why says = cc says.0
   says_refused (reply.Gone steps told) left why says = cc says.0
-  says_refused (reply.Found place) left why says = cc says
-  says_refused (reply.Refused other) left why says = cc says
   says_refused (reply.NotTaken told) left why says = absurd says
   says_refused reply.NotLent left why says = absurd says
+  says_refused r left why says = cc says
 
   pub shown_same : (v w : Labelled L) → SameLook (reply.Shown v) (reply.Shown w) → v ≡ w
   shown_same v w same_shown = refl

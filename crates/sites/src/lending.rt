@@ -64,6 +64,7 @@ impl<L: Label> Parts<L> {
     }
 
     // Lends the parts and the policy to a station for a call: the station as the call leaves it, and the reply.
+    #[tactic(auto, using(crate::proofs::Handing::any_policy))]
     pub(crate) fn lend<P: Policy<L>>(
         &mut self,
         policy: &mut P,
