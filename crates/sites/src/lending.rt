@@ -1,7 +1,6 @@
 // The parts of a station, and how they are lent to it.
 ghost use Rattle.std.specs.Prelude.{◌≡◌, ◌↔◌, IfOk, IsTrue, None, ⊤};
 ghost use Rattle.machine.specs.Calls.{misfit};
-ghost use Rattle.machine.specs.Steps.{contents};
 ghost use Rattle.machine.specs.declared.calls.Call.TheVariants.{NextCommand, Enter, Go, Look, Start};
 ghost use Rattle.steps.specs.Operations.{StaysTrue};
 ghost use Rattle.station.specs.Views.{made_sizes};

@@ -18,6 +18,7 @@ use Rattle.steps.specs.declared.registers.Fetched.{Fetched}
 use Rattle.steps.specs.declared.window.Window.{Window}
 
 module _ {L : Type 0} where
+  -- registers by their fields
   abbrev pub registers_at : ℤ → L → ℕ → Window → Registers L
   registers_at pc label depth window = record { pc = pc; pc_label = label; depth = depth; window = window }
 

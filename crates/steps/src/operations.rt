@@ -3,7 +3,7 @@
 // Each is lent just the parts that it reaches, and of the stack the entries in use as a slice of their own: there is no
 // depth to require anything of, and nothing that a struct of all parts would keep; it would lend each operation more
 // than it reaches.
-ghost use Rattle.std.specs.Prelude.{◌≡◌, ◌+◌, ◌^◌, ◌<◌, ◌≤◌, true, false, length, ℤ, pos, ◌+ℤ◌, FitsSigned};
+ghost use Rattle.std.specs.Prelude.{◌≡◌, ◌+◌, ◌<◌, true, false, length, ℤ, pos, ◌+ℤ◌, FitsSigned};
 ghost use Rattle.std.specs.Int.{w32};
 ghost use Rattle.rules.specs.Tables.{request as request_of};
 ghost use Rattle.machine.specs.Steps.{◌at◌, tried, arithmetic, return_to};

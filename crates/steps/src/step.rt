@@ -1,5 +1,5 @@
 // One step: what the operation at the program counter comes to.
-ghost use Rattle.std.specs.Prelude.{◌≡◌, ◌<◌, ◌≤◌, length, IsOk};
+ghost use Rattle.std.specs.Prelude.{◌<◌, ◌≤◌, length, IsOk};
 ghost use Rattle.machine.specs.Numbers.{most};
 ghost use Rattle.machine.specs.Steps.{contents, step, tried};
 ghost use Rattle.machine.specs.declared.answers.Part.TheVariants.{Program};
