@@ -176,7 +176,6 @@ impl<L: Label> Running<L> {
     }
 
     // The station after a go that ended so.
-    #[inline(always)]
     fn settle(&self, end: End) -> Station<L>
         ensures settled { Settles self.now end result }
         ensures sizes { made_sizes result ≡ self.now.sizes }

@@ -7,9 +7,9 @@ use crate::window::Window;
 #[derive(Clone, Copy, Debug, PartialEq, Eq)]
 pub struct Registers<L> {
     pub pc: i64,
-    pub pc_label: L,
     pub depth: usize,
     pub window: Window,
+    pub pc_label: L,
 }
 
 /// The registers at an operation of the program. The entries in use are handed to the operation, so their
