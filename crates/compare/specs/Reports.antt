@@ -112,4 +112,5 @@ module _ {P Q L : Type 0} (kind : Kind L) (p : Policy P L) (q : Policy Q L) (o :
   -- Refused, it says which station was, and why: the first is made first.
   abbrev pub IsUnmade : Unmade → Type 0
   IsUnmade (First why) = RunsTo kind p one (Err why)
-  IsUnmade (Second why) = ((made : Installed P L) × Installs one.parts one.policy (Ok made)) × RunsTo kind q two (Err why)
+  IsUnmade (Second why) = ((made : Installed P L) × Installs one.parts one.policy (Ok made))
+      × RunsTo kind q two (Err why)

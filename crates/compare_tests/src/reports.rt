@@ -126,7 +126,8 @@ fn stations_differ(rt: HostRuntime) -> Result<(), Fail> {
     Ok(())
 }
 
-// An enter that hands in one cell of two is refused, and does not count; one that hands in two cells of others is not made.
+// An enter that hands in one cell of two is refused, and does not count; one that hands in two cells of
+// others is not made.
 #[test]
 fn others_parts_are_handed_in(rt: HostRuntime) -> Result<(), Fail> {
     let heap = rt.alloc();

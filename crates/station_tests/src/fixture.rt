@@ -11,8 +11,8 @@ use std::fmt::Debug;
 use std::process::Abort;
 use std::test::Fail;
 
-// The level, labelled number, operation, entry and frame that tables of levels are written with. Macros, since a table is a
-// constant, and a constant calls no function.
+// The level, labelled number, operation, entry and frame that tables of levels are written with. Macros,
+// since a table is a constant, and a constant calls no function.
 macro_rules! labelled {
     ($number:literal @ $label:ident) => {
         machine::Labelled {
@@ -142,7 +142,8 @@ pub fn still_running<L: Drop>(gone: Gone<L>) -> Result<Running<L>, Fail> {
     }
 }
 
-// Compares what is with what should be. A function, since an assertion of its own for each comparison takes long to prove.
+// Compares what is with what should be. A function, since an assertion of its own for each comparison takes
+// long to prove.
 pub fn same<T: Debug + PartialEq + Drop>(
     rt: &impl Abort,
     name: &str,
@@ -153,7 +154,8 @@ pub fn same<T: Debug + PartialEq + Drop>(
     assert_eq!(rt; is, should, "{name}: {what}");
 }
 
-// How a go ends: the station is idle, or runs on from a place with a label, or was shut by the stop of a number at a place.
+// How a go ends: the station is idle, or runs on from a place with a label, or was shut by the stop of a
+// number at a place.
 #[derive(Clone, Copy, Debug, PartialEq)]
 pub enum End<L> {
     Idle,
@@ -231,7 +233,8 @@ impl<L: Label + Debug + PartialEq> Case<'_, L> {
     }
 }
 
-// A policy that is true to no table: it answers as the rows do so many times, and then forbids everything. It counts its askings.
+// A policy that is true to no table: it answers as the rows do so many times, and then forbids everything. It
+// counts its askings.
 #[derive(Drop)]
 pub struct Fickle {
     pub allowed: u32,

@@ -13,8 +13,8 @@ use std::fmt::Debug;
 use std::process::Abort;
 use std::test::Fail;
 
-// What a label does in the program: bottom, those that it is written with, those of the cell that it stores to, and those that it
-// comes to.
+// What a label does in the program: bottom, those that it is written with, those of the cell that it stores
+// to, and those that it comes to.
 #[derive(Clone, Copy)]
 enum Role {
     Bottom,
@@ -31,7 +31,8 @@ enum Role {
     Told,
 }
 
-// Calls place 6 with an argument, and stores what it returns. There 1 is added, and a secret is told and stored in cell 1.
+// Calls place 6 with an argument, and stores what it returns. There 1 is added, and a secret is told and
+// stored in cell 1.
 const PROGRAM: [Operation<Role>; 14] = [
     push!(5@Argument),
     push!(6@Target),

@@ -1,5 +1,5 @@
-// Tests of the station by its public calls. A crate with tests is proved twice, with them and without: in a crate of their own they
-// leave the station to be proved once.
+// Tests of the station by its public calls. A crate with tests is proved twice, with them and without: in a
+// crate of their own they leave the station to be proved once.
 #![tactic(auto)]
 
 #[cfg(test)]
