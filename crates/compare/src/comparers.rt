@@ -140,7 +140,7 @@ fn are_alike<L: Label>(level: L, first: Labelled<L>, second: Labelled<L>) -> boo
     are_same(first, second) || !(first.label.flows_to(level) || second.label.flows_to(level))
 }
 
-// Whether two labelled numbers are the same.
+/// Whether two labelled numbers are the same.
 pub fn are_same<L: Label>(first: Labelled<L>, second: Labelled<L>) -> bool
     ensures { IsTrue result ↔ (first ≡ second) }
 {

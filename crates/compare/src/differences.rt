@@ -3,7 +3,7 @@ ghost use Rattle.std.specs.Prelude.{◌≡◌, ◌↔◌, Bool, IsTrue, MatchOpt
 ghost use Rattle.machine.specs.Lists.{Each, OneBegins};
 ghost use Rattle.compare.specs.Differences.{Breaks, NextHad};
 
-// How an observer compares the elements of two lists: which of them he has, and which are alike to him.
+/// How an observer compares the elements of two lists: which of them he has, and which are alike to him.
 pub trait Comparer<T> {
     ghost has: { Self → T → Bool };
 
@@ -12,16 +12,16 @@ pub trait Comparer<T> {
     // Either way round.
     ghost symmetric: { (c : Self) (first second : T) → alike c first second → alike c second first };
 
-    // Whether he has the element. Each `impl` writes the clauses again, as for a policy.
+    /// Whether he has the element. Each `impl` writes the clauses again, as for a policy.
     fn has(&self, element: &T) -> bool
         ensures { result ≡ has self.now element.now };
 
-    // Whether the two elements are alike.
+    /// Whether the two elements are alike.
     fn alike(&self, first: &T, second: &T) -> bool
         ensures { IsTrue result ↔ alike self.now first.now second.now };
 }
 
-// Where, of the elements that the observer has, neither list begins the other any more.
+/// Where, of the elements that the observer has, neither list begins the other any more.
 pub fn first_difference<T, C: Comparer<T>>(comparer: &C, first: &[T], second: &[T]) -> Option<usize>
     ensures { Breaks (OneBegins (C.Comparer.alike comparer.now))
         (filter (C.Comparer.has comparer.now) first.now) (filter (C.Comparer.has comparer.now) second.now) result }
@@ -41,7 +41,7 @@ pub fn first_difference<T, C: Comparer<T>>(comparer: &C, first: &[T], second: &[
     None
 }
 
-// Where two lists cease to be alike element by element. Of these the observer has all.
+/// Where two lists cease to be alike element by element. Of these the observer has all.
 pub fn first_unlike<T, C: Comparer<T>>(comparer: &C, first: &[T], second: &[T]) -> Option<usize>
     ensures { Breaks (Each (C.Comparer.alike comparer.now)) first.now second.now result }
 {
@@ -60,7 +60,7 @@ pub fn first_unlike<T, C: Comparer<T>>(comparer: &C, first: &[T], second: &[T]) 
     }
 }
 
-// How many elements the observer has.
+/// How many elements the observer has.
 pub fn count<T, C: Comparer<T>>(comparer: &C, list: &[T]) -> usize
     ensures { result ≡ length (filter (C.Comparer.has comparer.now) list.now) }
 {

@@ -24,13 +24,15 @@ pub struct Compared<P, Q, L> {
 /// What the observer is told of two plans: where they first differ to him, if they do.
 #[derive(Clone, Copy, Debug, PartialEq, Eq)]
 pub struct Report {
-    /// Of the programs and memories, as the stations were made of them
+    /// Of the programs, as the stations were made of them.
     pub programs: Option<usize>,
+    /// Of the memories, likewise.
     pub memories: Option<usize>,
     /// Of the enters and starts that count.
     pub calls: Option<usize>,
     /// Of the commands at or below the level.
     pub commands: Option<usize>,
+    /// Of the looks that he may make.
     pub looks: Looks,
 }
 
@@ -39,6 +41,7 @@ pub struct Report {
 pub enum Looks {
     /// Not equally many enters and starts counted, or a station is not idle.
     NotDue,
+    /// Every look has the same answer.
     Same,
     /// The first cell at which they differ.
     DifferAt(usize),

@@ -51,7 +51,8 @@ fn integer(word: &str) -> Result<i64, NumberFault>
     })
 }
 
-/// The number that digits give, which is to be up to `most`. Refuses every other word.
+/// The number that digits give, which is to be up to `most`. Refuses one outside these limits, and a word
+/// that is no number.
 pub fn unsigned(word: &str, most: u32) -> Result<u32, Problem<'_>>
     ensures within { IfOk result (λ n. n ≤ most) }
     ensures reads { (n : ℕ) → n ≤ most → word.now ≡ decimal n → result ≡ Ok n }
@@ -63,8 +64,8 @@ pub fn unsigned(word: &str, most: u32) -> Result<u32, Problem<'_>>
     }
 }
 
-/// The number of 32 bits that digits give, with `-` before them if it is negative. Refuses every
-/// other word.
+/// The number of 32 bits that digits give, with `-` before them if it is negative. Refuses one outside
+/// these limits, and a word that is no number.
 pub fn signed(word: &str) -> Result<i32, NumberFault>
     ensures { GivesValue word.now result }
 {

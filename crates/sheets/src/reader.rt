@@ -53,8 +53,8 @@ pub struct Settings<L> {
 const LENGTH: usize = 64;
 
 impl<'a> Reader<'a> {
-    /// What the lines before the program come to together. Refuses a wrong line,
-    /// and lines that leave out what has to stand there or say it twice.
+    /// What the lines before the program come to together. Refuses a wrong line.
+    // Lines that leave out what has to stand there or say it twice are refused too; of these no clause speaks.
     pub fn settings<L: Label>(&self, lines: &[Line<'a>]) -> Result<Settings<L>, Fault<'a>>
         ensures { IfOk result (λ s. SaysSettings L.Label.text L.Label.kind.bottom
             (map line_words lines.now) s.memory.items s.stack s.log) }

@@ -129,7 +129,9 @@ impl<L: Label> Registers<L> {
 
     /// One step with no fuel left, which does no operation: the end that it comes to. A halt is decided, and any other
     /// operation waits. It is a function of its own so that a loop that counts its fuel down need not ask before each
-    /// operation whether any is left, and not inlined, so that the loop has the processor's registers to itself.
+    /// operation whether any is left. It is cold and not inlined, so that the loop has the processor's registers
+    /// to itself.
+    #[cold]
     #[inline(never)]
     pub fn step_without_fuel(self, program: &[Operation<L>]) -> End
         requires program_fits { length program.now ≤ most Program }

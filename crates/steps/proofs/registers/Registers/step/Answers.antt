@@ -24,7 +24,8 @@ returns-then-fuel-eq0-clause-steps g c =
     let kind = g.L.Label.kind in
     ends unasked
     (λ table true. ap (λ fuel. step kind table (made_of parts) fuel s) c.if-fuel-eq0.true
-    ∙ steps_on kind table (made_of parts) s 0 c.in_ok-op.op.now fetched.1 ∙ c.without_fuel.ensures table (made_of parts) parts)
+    ∙ steps_on kind table (made_of parts) s 0 c.in_ok-op.op.now fetched.1
+    ∙ c.without_fuel.ensures table (made_of parts) parts)
 
 pub returns-clause-steps : goal.returns-clause-steps
 returns-clause-steps g c =

@@ -17,5 +17,6 @@ pub returns-in-Ok : goal.returns-in-Ok
 returns-in-Ok g c table parts is =
     let fetched = rw c.in-Ok.is at c.fetch.ensures in
     let s = round c.args.self parts in
-    steps_on g.L.Label.kind table (made_of parts) s 0 c.in-Ok.op.now (ap (λ p. at_place p s.pc None Some) is ∙ fetched.1)
+    steps_on g.L.Label.kind table (made_of parts) s 0 c.in-Ok.op.now
+    (ap (λ p. at_place p s.pc None Some) is ∙ fetched.1)
     ∙ c.without_fuel.ensures table (made_of parts) parts
