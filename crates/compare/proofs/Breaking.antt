@@ -41,7 +41,8 @@ module _ {A : Type 0} (R : A → A → Type 0) where
     pub differ : (xs ys : List A) → (R x y → ⊥) → Breaks (OneBegins R) (x ∷ xs) (y ∷ ys) (Some 0)
     differ xs ys unalike = (inl ends, λ both. unalike (one_begins_tail turn both).0)
 
-    pub go_on : (xs ys : List A) (p : Option ℕ) → R x y → Breaks (OneBegins R) xs ys p → Breaks (OneBegins R) (x ∷ xs) (y ∷ ys) (later p)
+    pub go_on : (xs ys : List A) (p : Option ℕ) → R x y → Breaks (OneBegins R) xs ys p
+        → Breaks (OneBegins R) (x ∷ xs) (y ∷ ys) (later p)
     go_on xs ys None r breaks = longer r breaks
     go_on xs ys (Some n) r breaks = (longer r breaks.0, λ both. breaks.1 (one_begins_tail turn both).1)
 
@@ -64,6 +65,7 @@ module _ {A : Type 0} (R : A → A → Type 0) where
   pub unlike : (x y : A) (xs ys : List A) → (R x y → ⊥) → Breaks (Each R) (x ∷ xs) (y ∷ ys) (Some 0)
   unlike x y xs ys unalike = (none, λ both. unalike (parted both).0)
 
-  pub alike_on : (x y : A) (xs ys : List A) (p : Option ℕ) → R x y → Breaks (Each R) xs ys p → Breaks (Each R) (x ∷ xs) (y ∷ ys) (later p)
+  pub alike_on : (x y : A) (xs ys : List A) (p : Option ℕ) → R x y → Breaks (Each R) xs ys p
+      → Breaks (Each R) (x ∷ xs) (y ∷ ys) (later p)
   alike_on x y xs ys None r each = more r each
   alike_on x y xs ys (Some n) r breaks = (more r breaks.0, λ both. breaks.1 (parted both).1)

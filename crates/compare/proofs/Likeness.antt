@@ -6,7 +6,8 @@ use Rattle.machine.specs.Lists.{Each, none, more}
 use Rattle.machine.specs.Observer.{Alike, AlikeOperation, same_operation, alike_push, AlikeInput, alike_enter}
 use Rattle.machine.specs.declared.parts.Labelled.{Labelled}
 use Rattle.machine.specs.declared.parts.Operation.{Operation}
-use Rattle.machine.specs.declared.parts.Operation.TheVariants.{Push, Pop, Noop, Add, Sub, Less, Load, Store, Jump, Bnz, Call, Return, Output, Halt}
+use Rattle.machine.specs.declared.parts.Operation.TheVariants.{Push, Pop, Noop, Add, Sub, Less, Load, Store}
+use Rattle.machine.specs.declared.parts.Operation.TheVariants.{Jump, Bnz, Call, Return, Output, Halt}
 use Rattle.compare.specs.Tests.{without_number}
 
 abbrev pub is_push : {X : Type 0} → Operation X → Bool
@@ -45,8 +46,10 @@ module _ {L : Type 0} (kind : Kind L) (o : L) where
   same_without one two same_operation = refl
   same_without one two (alike_push a) = refl
 
-  other_alike : (v : Labelled L) (one two : Operation L) → is_push one ≡ false → without_number one ≡ without_number two → AlikeOperation kind o one two
-  other_alike v one two other same = rw (sym (as_it_was v one other) ∙ ap (put_back v) same ∙ as_it_was v two (sym (ap is_push same ∙ still_push two) ∙ still_push one ∙ other)) same_operation
+  other_alike : (v : Labelled L) (one two : Operation L) → is_push one ≡ false
+      → without_number one ≡ without_number two → AlikeOperation kind o one two
+  other_alike v one two other same = rw (sym (as_it_was v one other) ∙ ap (put_back v) same ∙ as_it_was v two
+      (sym (ap is_push same ∙ still_push two) ∙ still_push one ∙ other)) same_operation
 
   never_push : (op : Operation L) → ((v : Labelled L) → (op ≡ Push v) → ⊥) → is_push op ≡ false
   never_push (Push v) never = absurd (never v refl)
@@ -56,11 +59,14 @@ module _ {L : Type 0} (kind : Kind L) (o : L) where
   any : Labelled L
   any = record { value = pos 0; label = o }
 
-  pub first_other : (one two : Operation L) → ((v : Labelled L) → (one ≡ Push v) → ⊥) → without_number one ≡ without_number two → AlikeOperation kind o one two
+  pub first_other : (one two : Operation L) → ((v : Labelled L) → (one ≡ Push v) → ⊥)
+      → without_number one ≡ without_number two → AlikeOperation kind o one two
   first_other one two never = other_alike any one two (never_push one never)
 
-  pub second_other : (one two : Operation L) → ((v : Labelled L) → (two ≡ Push v) → ⊥) → without_number one ≡ without_number two → AlikeOperation kind o one two
-  second_other one two never same = other_alike any one two (sym (still_push one) ∙ ap is_push same ∙ still_push two ∙ never_push two never) same
+  pub second_other : (one two : Operation L) → ((v : Labelled L) → (two ≡ Push v) → ⊥)
+      → without_number one ≡ without_number two → AlikeOperation kind o one two
+  second_other one two never same = other_alike any one two (sym (still_push one) ∙ ap is_push same ∙ still_push two
+      ∙ never_push two never) same
 
   -- Alike pushes are those with alike numbers.
   pub alike_number : (v w : Labelled L) → AlikeOperation kind o (Push v) (Push w) → Alike kind o v w
@@ -68,11 +74,13 @@ module _ {L : Type 0} (kind : Kind L) (o : L) where
   alike_number v w (alike_push a) = a
 
   -- Calls are alike if each stands for one enter, and these are alike.
-  pub entered_alike : (cell other : ℕ) (v w : Labelled L) → Each (AlikeInput kind o) (enters cell v ∷ []) (enters other w ∷ []) → Alike kind o v w
+  pub entered_alike : (cell other : ℕ) (v w : Labelled L)
+      → Each (AlikeInput kind o) (enters cell v ∷ []) (enters other w ∷ []) → Alike kind o v w
   entered_alike cell other v w (more (alike_enter a) none) = a
 
   -- Calls that stand for no enter or start are alike, and such a call is alike to no other.
-  pub neither : (is js : List (Input L)) → is_some_input is ≡ false → (b : Bool) → b ≡ is_some_input js → IsTrue (not b) ↔ Each (AlikeInput kind o) is js
+  pub neither : (is js : List (Input L)) → is_some_input is ≡ false → (b : Bool) → b ≡ is_some_input js
+      → IsTrue (not b) ↔ Each (AlikeInput kind o) is js
   neither [] [] never b tested = (λ _. none, λ _. ap not tested)
   neither [] (j ∷ js) never b tested = (λ no. cc (sym (ap not tested) ∙ no), λ each. elim each [ ])
   neither (i ∷ is) js never b tested = cc never

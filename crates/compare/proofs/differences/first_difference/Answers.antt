@@ -12,15 +12,18 @@ pub returns-in_err-other : goal.returns-in_err-other
 returns-in_err-other g c =
     let comparer = c.args.comparer.now in
     let inside : c.loop-element.element-index < length c.args.first.now = omega arith in
-    rw c.from_residual.ensures (none_left (g.C.Comparer.alike comparer) (g.C.Comparer.symmetric comparer) (g.C.Comparer.has comparer) _ _ _ _ _
-    c.loop-element.invariant.1 c.element-item.result inside c.element-item.is (sym c.if-has.ensures) c.in_err-other.ensures)
+    rw c.from_residual.ensures (none_left (g.C.Comparer.alike comparer) (g.C.Comparer.symmetric comparer)
+    (g.C.Comparer.has comparer) _ _ _ _ _
+    c.loop-element.invariant.1 c.element-item.result inside c.element-item.is
+    (sym c.if-has.ensures) c.in_err-other.ensures)
 
 pub returns-then-not-alike : goal.returns-then-not-alike
 returns-then-not-alike g c =
     let comparer = c.args.comparer.now in
     let inside : c.loop-element.element-index < length c.args.first.now = omega arith in
     stopped (g.C.Comparer.alike comparer) (g.C.Comparer.symmetric comparer) (g.C.Comparer.has comparer) _ _ _ _ _
-    c.loop-element.invariant.1 c.element-item.result inside c.element-item.is (sym c.if-has.ensures) _ _ c.in_ok-other.ensures (λ r. cc (c.if-not-alike.ensures.1 r))
+    c.loop-element.invariant.1 c.element-item.result inside c.element-item.is
+    (sym c.if-has.ensures) _ _ c.in_ok-other.ensures (λ r. cc (c.if-not-alike.ensures.1 r))
 
 pub loop-element-preserved : goal.loop-element-preserved
 loop-element-preserved g c =
@@ -30,13 +33,16 @@ loop-element-preserved g c =
       | then-has+in_ok-other+else-not-alike w ↦
           rw (w.place-is, w.rest-is) (
             omega arith,
-            walked_on (g.C.Comparer.alike comparer) (g.C.Comparer.symmetric comparer) (g.C.Comparer.has comparer) _ _ _ _ _
-                c.loop-element.invariant.1 c.element-item.result inside c.element-item.is (sym w.if-has.ensures) _ _ w.in_ok-other.ensures (w.if-not-alike.ensures.0 refl),
+            walked_on (g.C.Comparer.alike comparer) (g.C.Comparer.symmetric comparer)
+                (g.C.Comparer.has comparer) _ _ _ _ _
+                c.loop-element.invariant.1 c.element-item.result inside c.element-item.is
+                (sym w.if-has.ensures) _ _ w.in_ok-other.ensures (w.if-not-alike.ensures.0 refl),
           )
       | else-has w ↦
           rw (w.place-is, w.rest-is) (
             omega arith,
-            passed_over (g.C.Comparer.alike comparer) (g.C.Comparer.symmetric comparer) (g.C.Comparer.has comparer) _ _ _ _ _
+            passed_over (g.C.Comparer.alike comparer) (g.C.Comparer.symmetric comparer)
+                (g.C.Comparer.has comparer) _ _ _ _ _
                 c.loop-element.invariant.1 c.element-item.result inside c.element-item.is (sym w.if-has.ensures),
           )
     ]
@@ -45,4 +51,5 @@ pub returns : goal.returns
 returns g c =
     let comparer = c.args.comparer.now in
     let over : length c.args.first.now ≤ c.loop-element.element-index = omega arith in
-    walked_out (g.C.Comparer.alike comparer) (g.C.Comparer.symmetric comparer) (g.C.Comparer.has comparer) _ _ _ _ _ c.loop-element.invariant.1 over
+    walked_out (g.C.Comparer.alike comparer) (g.C.Comparer.symmetric comparer)
+    (g.C.Comparer.has comparer) _ _ _ _ _ c.loop-element.invariant.1 over

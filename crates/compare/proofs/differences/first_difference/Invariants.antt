@@ -5,4 +5,5 @@ use Rattle.compare.proofs.differences.first_difference.Given as goal
 
 abbrev pub invariant-loop-element : goal.invariant-loop-element
 invariant-loop-element g l = (l.place ≤ l.element-index)
-    × Walked (g.C.Comparer.alike l.comparer) (g.C.Comparer.symmetric l.comparer) (g.C.Comparer.has l.comparer) l.first l.second l.element-index l.place l.rest
+    × Walked (g.C.Comparer.alike l.comparer) (g.C.Comparer.symmetric l.comparer)
+    (g.C.Comparer.has l.comparer) l.first l.second l.element-index l.place l.rest

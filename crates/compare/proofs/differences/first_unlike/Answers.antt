@@ -10,18 +10,24 @@ loop-place-init g c p breaks = rw (shifted_zero p) breaks
 pub returns-in_default : goal.returns-in_default
 returns-in_default g c =
     let inside : c.loop-place.place < length c.args.first.now = omega arith in
-    second_over (g.C.Comparer.alike c.args.comparer.now) _ _ _ c.loop-place.invariant c.index-first-place.result inside c.index-first-place.is c.in_default.ensures.lookup.3
+    second_over
+    (g.C.Comparer.alike c.args.comparer.now) _ _ _ c.loop-place.invariant c.index-first-place.result inside
+    c.index-first-place.is c.in_default.ensures.lookup.3
 
 pub returns-then-not-alike : goal.returns-then-not-alike
 returns-then-not-alike g c =
     let inside : c.loop-place.place < length c.args.first.now = omega arith in
-    differ_at (g.C.Comparer.alike c.args.comparer.now) _ _ _ c.loop-place.invariant c.index-first-place.result inside c.index-first-place.is
+    differ_at
+    (g.C.Comparer.alike c.args.comparer.now) _ _ _ c.loop-place.invariant c.index-first-place.result inside
+    c.index-first-place.is
     c.in-Some.other.now c.in-Some.ensures.lookup.3.0 c.in-Some.ensures.lookup.1 (λ r. cc (c.if-not-alike.ensures.1 r))
 
 pub loop-place-preserved : goal.loop-place-preserved
 loop-place-preserved g c =
     let inside : c.loop-place.place < length c.args.first.now = omega arith in
-    compared_on (g.C.Comparer.alike c.args.comparer.now) _ _ _ c.loop-place.invariant c.index-first-place.result inside c.index-first-place.is
+    compared_on
+    (g.C.Comparer.alike c.args.comparer.now) _ _ _ c.loop-place.invariant c.index-first-place.result inside
+    c.index-first-place.is
     c.in-Some.other.now c.in-Some.ensures.lookup.3.0 c.in-Some.ensures.lookup.1 (c.if-not-alike.ensures.0 refl)
 
 pub returns-then-first-second : goal.returns-then-first-second

@@ -10,5 +10,6 @@ loop-exchange-init g c = (over, refl, refl)
 pub loop-exchange-preserved : goal.loop-exchange-preserved
 loop-exchange-preserved g c =
     let inside : c.loop-exchange.exchange-index < length c.loop-exchange.exchanges = omega arith in
-    made_more g.L.Label.kind g.P.Policy _ c.loop-exchange.exchanges _ c.exchange-item.result c.make_on-site.new.self inside c.loop-exchange.invariant.2 c.loop-exchange.invariant.1
+    made_more g.L.Label.kind g.P.Policy _ c.loop-exchange.exchanges _ c.exchange-item.result
+    c.make_on-site.new.self inside c.loop-exchange.invariant.2 c.loop-exchange.invariant.1
     c.loop-exchange.invariant.0 c.make_on-site.ensures

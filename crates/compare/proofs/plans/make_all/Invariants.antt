@@ -5,6 +5,7 @@ use Rattle.compare.proofs.plans.make_all.Given as goal
 
 abbrev pub invariant-loop-exchange : goal.invariant-loop-exchange
 invariant-loop-exchange g l =
-    Plays g.L.Label.kind g.P.Policy l.fn.site (take l.exchange-index l.initial.exchanges) (take l.exchange-index l.exchanges) l.site
+    Plays g.L.Label.kind g.P.Policy l.fn.site (take l.exchange-index l.initial.exchanges)
+    (take l.exchange-index l.exchanges) l.site
     × (drop l.exchange-index l.exchanges ≡ drop l.exchange-index l.initial.exchanges)
     × (length l.exchanges ≡ length l.initial.exchanges)

@@ -17,7 +17,8 @@ returns-clause-compares g c = record {
     programs = rw (c.as_slice.ensures.value, c.as_slice-2.ensures.value) at c.first_unlike-programs.ensures;
     memories = rw (c.as_slice-3.ensures.value, c.as_slice-4.ensures.value) at c.first_unlike-memories.ensures;
     calls = rw (c.as_slice-5.ensures.value, c.as_slice-6.ensures.value) at c.first_difference.ensures;
-    commands = of_commands g.L.Label.kind c.args.level _ _ _ (rw (c.commands.ensures, c.commands-2.ensures) at c.first_difference-2.ensures);
+    commands = of_commands g.L.Label.kind c.args.level _ _ _
+        (rw (c.commands.ensures, c.commands-2.ensures) at c.first_difference-2.ensures);
     looks = c.compare_looks.ensures;
   };
 }
@@ -36,11 +37,17 @@ returns-clause-told g c true_one true_two alike =
     let one = past kind g.P.Policy c.args.one c.in-Ok.one true_one c.in-Ok.ensures in
     let two = past kind g.Q.Policy c.args.two c.in-Ok-run.two true_two c.in-Ok-run.ensures in
     let report = (returns-clause-compares g c).report in
-    let alike_stations : AlikeStations kind c.args.level (history kind c.args.one.parts c.in-Ok.one.exchanges.items) (history kind c.args.two.parts c.in-Ok-run.two.exchanges.items)
+    let alike_stations : AlikeStations kind c.args.level (history kind c.args.one.parts c.in-Ok.one.exchanges.items)
+    (history kind c.args.two.parts c.in-Ok-run.two.exchanges.items)
     = (
-      subst (Breaks (Each (AlikeOperation kind c.args.level)) c.args.one.parts.program.items c.args.two.parts.program.items) alike.0 report.programs,
-      subst (Breaks (Each (Alike kind c.args.level)) c.args.one.parts.memory.items c.args.two.parts.memory.items) alike.1 report.memories,
+      subst (Breaks
+          (Each (AlikeOperation kind c.args.level)) c.args.one.parts.program.items
+          c.args.two.parts.program.items) alike.0 report.programs,
+      subst (Breaks
+          (Each (Alike kind c.args.level)) c.args.one.parts.memory.items c.args.two.parts.memory.items) alike.1
+          report.memories,
     ) in
     nothing_differs kind c.args.level g.met.L.Label.lawful _ _ _ _ _ _ one two report alike_stations
     (calls_alike kind c.args.level g.met.L.Label.lawful _ _ _ _ _ _ one two
-    (subst (Breaks (OneBegins (AlikeExchange kind c.args.level)) (filter counts c.in-Ok.one.exchanges.items) (filter counts c.in-Ok-run.two.exchanges.items)) alike.2 report.calls))
+    (subst (Breaks (OneBegins (AlikeExchange kind c.args.level)) (filter counts c.in-Ok.one.exchanges.items)
+    (filter counts c.in-Ok-run.two.exchanges.items)) alike.2 report.calls))

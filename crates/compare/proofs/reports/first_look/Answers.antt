@@ -32,7 +32,9 @@ returns g c cell =
     ⊎_elim
     (λ inside. c.loop-cell.invariant cell inside)
     (λ beyond.
-    let over : length (memory_of one.station) ≤ cell = omega (arith, c.max-cells.ensures, ap length c.memory.ensures.is) in
-    let over' : length (memory_of two.station) ≤ cell = omega (arith, c.max-cells.ensures, ap length c.memory-2.ensures.is) in
+    let over : length (memory_of one.station) ≤ cell =
+    omega (arith, c.max-cells.ensures, ap length c.memory.ensures.is) in
+    let over' : length (memory_of two.station) ≤ cell =
+    omega (arith, c.max-cells.ensures, ap length c.memory-2.ensures.is) in
     look_beyond kind c.args.level one cell over ∙ sym (look_beyond kind c.args.level two cell over'))
     (inside_or_beyond cell c.loop-cell.cell)

@@ -17,4 +17,5 @@ returns-then-cell-other_cell g c =
 
 pub returns-then-not-is_input : goal.returns-then-not-is_input
 returns-then-not-is_input g c =
-    neither g.L.Label.kind c.args.self.now.level _ _ (sym c.is_input.ensures ∙ c.if-not-is_input.true) _ c.is_input-then-not-is_input.ensures
+    neither g.L.Label.kind c.args.self.now.level _ _
+    (sym c.is_input.ensures ∙ c.if-not-is_input.true) _ c.is_input-then-not-is_input.ensures
