@@ -82,11 +82,16 @@ impl Rules<'_> {
         console: &mut Console<'_>,
     ) -> Result<(), Failure> {
         let heap = console.heap();
-        let lines = BufReader::new(heap, reader)?.lines(heap);
-        for (number, line) in (1u64..).zip(lines) {
-            match line {
-                Ok(line) => self.answer_one(&mut policy, number, line.as_str(), console)?,
-                Err(e) => return Err(self.told(number, Problem::Unread(&e), console)),
+        let mut reader = BufReader::new(heap, reader)?;
+        for number in 1..u64::MAX {
+            // Before more is waited for, what is answered is shown: whoever asks may wait for it.
+            if !reader.buffer().contains(&b'\n') {
+                console.flush()?;
+            }
+            match reader.by_ref().lines(heap).next() {
+                None => return Ok(()),
+                Some(Ok(line)) => self.answer_one(&mut policy, number, line.as_str(), console)?,
+                Some(Err(e)) => return Err(self.told(number, Problem::Unread(&e), console)),
             }
         }
         Ok(())

@@ -1,27 +1,29 @@
 -- Texts of sets of growers, and bytes that begin with no pair's text.
-use Rattle.std.specs.Prelude.{◌≡◌, ℕ, ◌-◌, ◌/◌, ◌%◌, ◌^◌, false, List, [], ◌++◌, None, refl}
-use Rattle.std.specs.Fmt.{padded_integral, format_spec, digits}
+use Rattle.std.specs.Prelude.{◌≡◌, ℕ, ◌/◌, ◌%◌, ◌<◌, List, ◌++◌, None}
 use Rattle.std.proofs.Common.{arith}
-use Rattle.std.proofs.lemmas.Fmt.{hex_byte}
-use Rattle.labels.specs.Growers.{grower_text}
+use Rattle.std.proofs.Math.Utf8.{encode}
+use Rattle.std.proofs.lemmas.Str.Ascii.{encode_ascii}
+use Rattle.labels.specs.Growers.{hex, grower_text}
 use Rattle.labels.specs.Pair.{pair_text}
 use Rattle.labels.specs.Text.{PrefixFree, Reads}
 use Rattle.labels.specs.PrefixFree.{in_two, pair_rest}
 use Rattle.labels.specs.declared.growers.mask.Growers.{Growers}
 
--- a mask's two bytes, each as `{:02x}` writes it, are the text of the set
-pub two_bytes : (a : Growers)
-    → padded_integral (format_spec 32 0 4 2 (2 ^ 64 - 1)) false [] (digits 16 false (a.mask / 256))
-    ++ padded_integral (format_spec 32 0 4 2 (2 ^ 64 - 1)) false [] (digits 16 false (a.mask % 256))
-    ≡ grower_text a
-two_bytes a =
-    let fits = a.fits in
-    let p : a.mask / 256 / 16 ≡ a.mask / 4096 = omega arith in
-    let q : a.mask % 256 / 16 ≡ a.mask / 16 % 16 = omega arith in
-    let r : a.mask % 256 % 16 ≡ a.mask % 16 = omega arith in
-    let high = hex_byte false (a.mask / 256) (omega arith) in
-    let low = hex_byte false (a.mask % 256) (omega arith) in
-    rw (high, low, p, q, r) refl
+hex_byte : (n : ℕ) → n < 16 → hex n < 128
+hex_byte n p = grind (arith)
+
+-- the four digits of a mask, each written as a character, are the text of the set
+pub four_bytes : (x : Growers) (a b c d : ℕ)
+    → a ≡ hex (x.mask / 4096) → b ≡ hex (x.mask / 256 % 16)
+    → c ≡ hex (x.mask / 16 % 16) → d ≡ hex (x.mask % 16)
+    → encode a ++ (encode b ++ (encode c ++ encode d)) ≡ grower_text x
+four_bytes x a b c d p q r s =
+    let fits = x.fits in
+    let ea = encode_ascii a (omega (arith, hex_byte (x.mask / 4096) (omega arith))) in
+    let eb = encode_ascii b (omega (arith, hex_byte (x.mask / 256 % 16) (omega arith))) in
+    let ec = encode_ascii c (omega (arith, hex_byte (x.mask / 16 % 16) (omega arith))) in
+    let ed = encode_ascii d (omega (arith, hex_byte (x.mask % 16) (omega arith))) in
+    rw (ea, eb, ec, ed) (cc)
 
 module _ {A B : Type 0} (left : A → List ℕ) (right : B → List ℕ) where
   -- bytes that begin with no left text begin with no pair's

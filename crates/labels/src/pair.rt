@@ -55,6 +55,7 @@ impl<A: Label, B: Label> fmt::Display for Pair<A, B> {
     ghost output = { λ x. Some (pair_text A.Label.text B.Label.text x) };
 
     fn fmt<W: fmt::Write>(&self, f: &mut fmt::Formatter<W>) -> fmt::Result {
-        write!(f, "{}{}", self.left, self.right)
+        self.left.fmt(f)?;
+        self.right.fmt(f)
     }
 }

@@ -1,94 +1,58 @@
 -- Blanks, the words between them, and what stands before a comment.
-use Rattle.std.proofs.Common.{◌≡◌, ℕ, suc, ◌+◌, ◌<◌, eqb, Bool, true, false, cond, not}
+use Rattle.std.proofs.Common.{◌≡◌, ℕ, suc, zero, ◌+◌, ◌<◌, ◌≤◌, eqb, nat_lt, Bool, true, false, cond, not}
 use Rattle.std.proofs.Common.{Option, Some, None, MatchOption, unwrap_or}
-use Rattle.std.proofs.Common.{List, [], ◌∷◌, ◌++◌, length, get_or, take, drop, length-take}
-use Rattle.std.proofs.Common.{refl, sym, ap, ◌∙◌, subst, ⊎_elim, arith, lit<}
-use Rattle.std.proofs.lemmas.Bool.{cases_Bool, both_ways}
+use Rattle.std.proofs.Common.{List, [], ◌∷◌, length, take, drop, length-drop, IsUtf8}
+use Rattle.std.proofs.Common.{refl, sym, ap, ◌∙◌, subst, ⊎_elim, add-one, arith, ltb-false, lit<}
+use Rattle.std.proofs.lemmas.Grind.{common_steps}
+use Rattle.std.proofs.lemmas.Bool.{cases_Bool}
 use Rattle.std.proofs.lemmas.Bool.Decides.{nat_tests}
-use Rattle.std.proofs.lemmas.List.{nil_from_length, take_all, get_or-take}
-use Rattle.std.proofs.lemmas.List.Sums.{position_or_len_is}
-use Rattle.std.proofs.lemmas.Str.{NoCharPasses-byte, encode_ascii, len_utf8_bounds}
-use Rattle.std.proofs.lemmas.Str.Pattern.{drop_at_char, IsSplitOnceResult, split_once_first}
+use Rattle.std.proofs.lemmas.List.{take_all, drop_all}
+use Rattle.std.proofs.lemmas.List.Quantifiers.{position-Some}
+use Rattle.std.proofs.lemmas.List.Sums.{passes_at_first, prefix_len-le-length}
+use Rattle.std.proofs.lemmas.Str.{IsCharBoundary-start, IsCharBoundary-end}
+use Rattle.std.proofs.lemmas.Str.{IsCharBoundary-before_ascii, IsCharBoundary-after_ascii}
+use Rattle.std.proofs.lemmas.Str.Pattern.{IsSplitOnceResult, split_once_first}
+use Rattle.std.proofs.str.Laws.{order}
 use Rattle.std.specs.Borrow.{Bor}
-use Rattle.std.specs.Char.{char_set_contains, IsScalar}
-use Rattle.std.specs.List.{position_or_len, before_first}
-use Rattle.std.specs.Str.{NoCharPasses}
-use Rattle.std.specs.Str.Pattern.{FindsBy, FindsPrefixBy, CutsPrefixes, IsTrimStartMatches}
-use Rattle.std.specs.Str.Pattern.{MatchBeginsAt}
-use Rattle.text.specs.Words.{blank, uncommented, word, words_in, words, trimmed, behind}
+use Rattle.std.specs.List.{position, position_or_len, before_first}
+use Rattle.std.specs.Str.{IsCharBoundary}
+use Rattle.text.specs.Words.{blank, dark, uncommented, word, words_in, words, trimmed, behind}
 
--- A blank is what the code's list of blanks has, and is ASCII.
-
--- the test is that of the code's list
-abbrev Lists : (ℕ → Bool) → Type 0
-Lists k = (c : ℕ) → char_set_contains (32 ∷ 9 ∷ 13 ∷ []) c ≡ k c
-
-is_blank : Lists blank
-is_blank c = grind (arith, nat_tests)
+-- A blank is ASCII, so that no character is cut before or behind it.
 
 blank_low : (b : ℕ) → blank b ≡ true → b < 128
 blank_low b e = grind (arith, nat_tests)
 
-scalar_low : (b : ℕ) → b < 128 → IsScalar b
-scalar_low b h = grind (arith, nat_tests)
+not_dark : (t : Bool) → not t ≡ false → t ≡ true
+not_dark true e = refl
+not_dark false e = sym e
 
-no_blank : (bs : List ℕ) (i : ℕ) → NoCharPasses blank bs → i < length bs
-    → blank (get_or bs i 0) ≡ false
-no_blank bs i none h =
+-- where the first byte stands that is no blank
+pub word_whole : (bs : List ℕ) (n : ℕ) → IsUtf8 bs → position dark bs ≡ Some n → IsCharBoundary bs n
+word_whole bs zero u e = IsCharBoundary-start bs u
+word_whole bs (suc n) u e =
+    let (inside, here, before) = position-Some dark bs (suc n) 0 e in
+    let low = blank_low _ (not_dark _ (before n (omega arith))) in
+    subst (IsCharBoundary bs) (add-one n) (IsCharBoundary-after_ascii bs n u (omega (arith, inside)) low)
+
+-- where the first blank stands, or at the end
+pub blank_whole : (bs : List ℕ) → IsCharBoundary bs (position_or_len blank bs)
+blank_whole bs =
     ⊎_elim
-    (λ e. NoCharPasses-byte blank bs i none h (blank_low _ e))
-    (λ e. e)
-    (cases_Bool (blank (get_or bs i 0)))
+    (λ h. IsCharBoundary-before_ascii bs _ h (blank_low _ (passes_at_first blank bs 0 h)))
+    (λ h. let e : length bs ≡ position_or_len blank bs = omega (arith, h, prefix_len-le-length (λ b. not (blank b)) bs) in
+    subst (IsCharBoundary bs) e (IsCharBoundary-end bs))
+    (order (position_or_len blank bs) (length bs))
 
--- What is left when the blanks at the front are cut off, one by one.
-
--- o is the width of the blank at the front
-abbrev Front : List ℕ → Option ℕ → Type 0
-Front s o = (k : ℕ → Bool) → Lists k → FindsPrefixBy k s o
-
-one_cut : (s : List ℕ) (n : ℕ) → FindsPrefixBy blank s (Some n) → trimmed s ≡ trimmed (drop n s)
-one_cut s n (c, passes, at) =
-    ap trimmed (drop_at_char c s 0 n at (blank_low c passes)) ∙ rw passes refl
-
-all_cut : (s ns r : List ℕ) → CutsPrefixes Front s ns r → trimmed s ≡ trimmed r
-all_cut s [] r is = ap trimmed (sym is)
-all_cut s (n ∷ ns) r (m, before, front, is) =
-    all_cut s ns m before ∙ one_cut m n (front blank is_blank) ∙ ap trimmed (sym is)
-
-none_left : (r : List ℕ) → FindsPrefixBy blank r None → trimmed r ≡ r
-none_left [] h = refl
-none_left (b ∷ bs) h =
-    ⊎_elim
-    (λ e. let low = blank_low b e in
-    let one = sym (ap (λ l. l ++ bs) (encode_ascii b low)) in
-    absurd (both_ways (blank b) (h b bs (scalar_low b low) one) e))
+-- the place that is searched for, or the length
+pub found_or : {X : Type 0} (p : X → Bool) (xs : List X) (o : Option ℕ) → o ≡ position p xs
+    → unwrap_or o (length xs) ≡ position_or_len p xs
+found_or p xs o is =
+    rw is
+    (⊎_elim
     (λ e. rw e refl)
-    (cases_Bool (blank b))
-
-pub trims : (s r : List ℕ) → IsTrimStartMatches Front s r → r ≡ trimmed s
-trims s r ((ns, cuts), (None, h, last)) = sym (all_cut s ns r cuts ∙ none_left r (h blank is_blank))
-trims s r ((ns, cuts), (Some n, h, nothing)) =
-    let (c, passes, at) = h blank is_blank in
-    absurd (omega (arith, nothing, at.ends, len_utf8_bounds c))
-
--- Where the first blank is, if there is one.
-
--- o is where it begins and ends
-abbrev First : List ℕ → Option (ℕ × ℕ) → Type 0
-First s o = (k : ℕ → Bool) → Lists k → FindsBy k s o
-
-pub ends : (s : List ℕ) (r : Option ℕ) → MatchOption r (First s None) (MatchBeginsAt First s)
-    → position_or_len blank s ≡ unwrap_or r (length s)
-ends s None h =
-    position_or_len_is blank s (length s) 0 (omega arith)
-    (λ k lt. no_blank s k (h blank is_blank) lt)
-    (λ lt. absurd (omega arith))
-ends s (Some i) (j, found, order, front, back) =
-    let (none, (c, passes, at)) = found blank is_blank in
-    position_or_len_is blank s i 0 front.0
-    (λ k lt. let here = no_blank (take i s) k none (omega (arith, length-take i s, front.0)) in
-    rw get_or-take at here)
-    (λ lt. rw (at.byte (blank_low c passes)) passes)
+    (λ e. rw e (omega (arith, ltb-false _ _ e, prefix_len-le-length (λ x. not (p x)) xs)))
+    (cases_Bool (nat_lt (position_or_len p xs) (length xs))))
 
 -- What goes up to the first byte that p takes, and what comes from the first blank on.
 
@@ -117,6 +81,15 @@ behind_first : (bs : List ℕ) → behind bs ≡ drop (position_or_len blank bs)
 behind_first [] = refl
 behind_first (b ∷ bs) = drop_on (blank b) b _ bs (behind bs) (behind_first bs)
 
+turned : (t : Bool) (xs ys : List ℕ) → cond t xs ys ≡ cond (not t) ys xs
+turned true xs ys = refl
+turned false xs ys = refl
+
+trimmed_first : (bs : List ℕ) → trimmed bs ≡ drop (position_or_len dark bs) bs
+trimmed_first [] = refl
+trimmed_first (b ∷ bs) =
+    turned (blank b) (trimmed bs) (b ∷ bs) ∙ drop_on (dark b) b _ bs (trimmed bs) (trimmed_first bs)
+
 -- The words of a line.
 
 words_on : (bs : List ℕ) → words_in true bs ≡ words (behind bs)
@@ -138,19 +111,32 @@ first_word (b ∷ bs) h =
     (λ e. rw e (rw e (ap (λ ws. (b ∷ word bs) ∷ ws) (words_on bs))))
     (cases_Bool (blank b))
 
-module _ (line rest : List ℕ) (is : rest ≡ trimmed line) where
-  pub no_words : length rest ≡ 0 → words line ≡ []
-  no_words e = words_trimmed line ∙ ap words (sym is ∙ nil_from_length rest e)
+-- with no byte but blanks there is no word
+pub no_words : (line : List ℕ) → position dark line ≡ None → words line ≡ []
+no_words line e =
+    let all : length line ≤ position_or_len dark line = grind (arith, common_steps) in
+    words_trimmed line ∙ ap words (trimmed_first line ∙ drop_all (position_or_len dark line) line all)
+
+module _ (line rest : List ℕ) (start : ℕ) (found : position dark line ≡ Some start) (back : rest ≡ drop start line) where
+  trimmed_is : rest ≡ trimmed line
+  trimmed_is =
+      let at : position_or_len dark line ≡ start = grind (arith, common_steps) in
+      back ∙ sym (ap (λ n. drop n line) at) ∙ sym (trimmed_first line)
+
+  some_left : 0 < length rest
+  some_left =
+      let inside = (position-Some dark line start 0 found).0 in
+      rw back (omega (arith, inside, length-drop start line))
 
   pub next : (end : ℕ) (front more : List ℕ) → end ≡ position_or_len blank rest
-      → front ≡ take end rest → more ≡ drop end rest → 0 < length rest
+      → front ≡ take end rest → more ≡ drop end rest
       → (words line ≡ front ∷ words more) × (more ≡ behind (trimmed line))
-  next end front more at taken dropped some =
+  next end front more at taken dropped =
       let first : front ≡ word (trimmed line) =
-      taken ∙ ap (λ k. take k rest) at ∙ sym (word_first rest) ∙ ap word is in
+      taken ∙ ap (λ k. take k rest) at ∙ sym (word_first rest) ∙ ap word trimmed_is in
       let after : more ≡ behind (trimmed line) =
-      dropped ∙ ap (λ k. drop k rest) at ∙ sym (behind_first rest) ∙ ap behind is in
-      let long = subst (λ (l : List ℕ). 0 < length l) is some in
+      dropped ∙ ap (λ k. drop k rest) at ∙ sym (behind_first rest) ∙ ap behind trimmed_is in
+      let long = subst (λ (l : List ℕ). 0 < length l) trimmed_is some_left in
       (rw (first, after) (first_word line long), after)
 
 -- What stands before the comment.

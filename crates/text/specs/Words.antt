@@ -1,5 +1,5 @@
 -- Lines: what stands before a comment, and the words.
-use Rattle.std.specs.Prelude.{◌≡◌, ◌≢◌, ℕ, ◌==◌, Bool, true, false, ◌||◌, cond}
+use Rattle.std.specs.Prelude.{◌≡◌, ◌≢◌, ℕ, ◌==◌, Bool, true, false, ◌||◌, cond, not}
 use Rattle.std.specs.Prelude.{List, [], ◌∷◌, Some, None, Option}
 use Rattle.std.specs.Borrow.{Bor}
 
@@ -11,6 +11,10 @@ uncommented (b ∷ bs) = cond (b == 35) [] (b ∷ uncommented bs)
 -- a space, a tab or a carriage return
 abbrev pub blank : ℕ → Bool
 blank b = b == 32 || (b == 9 || b == 13)
+
+-- a byte of a word
+abbrev pub dark : ℕ → Bool
+dark b = not (blank b)
 
 -- the bytes up to the first blank
 abbrev pub word : List ℕ → List ℕ

@@ -1,10 +1,10 @@
--- What is written is the text: two bytes in hexadecimal.
-use Rattle.std.proofs.Common.{sym}
-use Rattle.labels.proofs.Texts.{two_bytes}
+-- What is written is the text: the four digits of the mask.
+use Rattle.std.proofs.Output.{has_written_of_eq}
+use Rattle.labels.proofs.Texts.{four_bytes}
 use Rattle.labels.proofs.growers.GrowersDisplay.fmt.Goals as goal
 
 pub returns-clause-writes : goal.returns-clause-writes
 returns-clause-writes g c =
-    rw (sym (two_bytes c.args.self.now))
-    (rw (c.laid_out.ensures, c.laid_out-2.ensures, c.in_radix.ensures, c.in_radix-2.ensures)
-    at c.write.ensures.writes)
+    let text = four_bytes c.args.self.now _ _ _ _
+    c.hex_digit-a.ensures c.hex_digit-b.ensures c.hex_digit-c.ensures c.hex_digit-d.ensures in
+    λ plain ok. has_written_of_eq g.W.Write.write_str_gives _ _ _ _ text (c.write.ensures.writes plain ok)
